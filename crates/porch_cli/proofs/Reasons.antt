@@ -1,0 +1,245 @@
+-- From the answers of the parts to those of the top call.
+use Rattle.std.proofs.Common.{◌≡◌, ◌≤◌, ◌<◌, ◌^◌, ◌⊎◌, ◌++◌, ℕ, ℤ, List, length, inl, inr, refl, sym, ap, subst, ◌∙◌, arith}
+use Rattle.std.proofs.lemmas.List.{append-nil, length-append}
+use Rattle.std.specs.Prelude.{Result, Ok, Err, IsErrOf, codes, [], ◌∷◌}
+use Rattle.std.specs.declared.option.Option.{Option}
+use Rattle.std.specs.declared.option.Option.TheVariants.{Some, None}
+use Rattle.porch_edge.specs.Causes.{Rose}
+use Rattle.porch_edge.specs.Streams.{Grew, GrewByPrefix}
+use Rattle.porch_syntax.specs.declared.refusal.Refusal.{Refusal}
+use Rattle.porch_syntax.specs.declared.refusal.SourceFault.{SourceFault}
+use Rattle.porch_syntax.specs.declared.refusal.SourceFault.TheVariants.{Refused, NoMemory}
+use Rattle.porch_syntax.specs.Tree.{Program}
+use Rattle.porch_syntax.specs.Language.{IsSource, IsRefusal}
+use Rattle.porch_meaning.specs.declared.act.Act.{Act}
+use Rattle.porch_meaning.specs.Mean.{Meaning, Ending, Ended, Met, Paused}
+use Rattle.porch_machine.specs.declared.early.EarlyEnd.{EarlyEnd}
+use Rattle.porch_machine.specs.declared.early.EarlyEnd.TheVariants as end
+use Rattle.porch_machine.specs.Early.{HasRun, EndCaused}
+use Rattle.porch_cli.specs.declared.reading.ReadStop.{ReadStop}
+use Rattle.porch_cli.specs.declared.reading.ReadStop.TheVariants as stop
+use Rattle.porch_cli.specs.declared.status.Status.{Status}
+use Rattle.porch_cli.specs.declared.status.Status.TheVariants as status
+use Rattle.porch_cli.specs.Words.{IsExec}
+use Rattle.porch_syntax.specs.Token.{decimal_of}
+use Rattle.porch_cli.specs.Lines.{line_of}
+use Rattle.porch_cli.specs.Answers.{meaning_in, HasRead, IsProgram, Ran, RanText, RanInto, Changes, HasReason, RunsText, status_of, refused_for, stopped_for, Closes, HasAnswered, RanSource, IsUsage, IsRefused, IsWriteFault, HasLine, HasLinePrefix, status_for, Completes, Unordered, Refuses}
+
+pub unchanged : (h : Option (List ℕ)) → Grew h h []
+unchanged None = tt
+unchanged (Some bytes) = sym (append-nil bytes)
+
+-- a run of the program that a text is
+pub run_ended : (text : List ℕ) (p : Program) (budget : ℕ) (out out' : Option (List ℕ)) (f f' : ℕ) (e : EarlyEnd) → IsProgram text p → HasRun (meaning_in p budget) out out' e → EndCaused f f' e
+    → RunsText text budget out out' f f' (status_of e)
+run_ended text p budget out out' f f' (end.Ended value turns) is ran cause = record { program = p; source = is; ended = ran.0; turned = ran.1; grew = ran.2 }
+run_ended text p budget out out' f f' (end.Trap a turns) is ran cause = record { program = p; source = is; ended = ran.0; turned = ran.1; grew = ran.2 }
+run_ended text p budget out out' f f' (end.Paused turns) is ran cause = record { program = p; source = is; ended = ran.0; turned = ran.1; grew = ran.2 }
+run_ended text p budget out out' f f' end.WriteFault is ran cause = (cause.rose refl, (p, is, ran))
+run_ended text p budget out out' f f' end.NoMemory is ran cause = ran
+
+pub stopped_with : (s : ReadStop) → s ≡ stop.ReadFault → IsErrOf (let r : Result (Unit {0}) ReadStop = Err s in r) stop.ReadFault
+stopped_with s e = ap (λ (x : ReadStop). let r : Result (Unit {0}) ReadStop = Err x in r) e
+
+refused_memory : (r : Refusal) → Refused r ≡ NoMemory → ⊥
+refused_memory r e = cc
+
+-- a text that has no tree
+pub run_refused : (text : List ℕ) (budget : ℕ) (out : Option (List ℕ)) (f : ℕ) (e : SourceFault) → ((p : Program) → IsSource text p → e ≡ NoMemory) → (e ≡ NoMemory) ⊎ IsRefusal text e
+    → RunsText text budget out out f f (refused_for e)
+run_refused text budget out f (Refused r) only is =
+    (λ p s. refused_memory r (only p s), elim is [ inl e ↦ absurd (refused_memory r e) | inr k ↦ k ], unchanged out)
+run_refused text budget out f NoMemory only is = unchanged out
+
+module _ (words : List (List ℕ)) (c : Changes) where
+  -- the reason of an answer where the source wasn't read
+  pub reason_of_stop : (text : List ℕ) (budget : ℕ) (s : ReadStop) → IsExec words budget → (s ≡ stop.ReadFault → Rose c.read_faults c.read_faults') → Grew c.held c.held' [] → HasReason words c text (stopped_for s)
+  reason_of_stop text budget stop.ReadFault o rose k = ((budget, o), rose refl, k)
+  reason_of_stop text budget stop.NoMemory o rose k = ((budget, o), k)
+
+  -- the reason of an answer that a run gave
+  pub reason_of_run : (text : List ℕ) (budget : ℕ) (s : Status) → IsExec words budget → HasRead c.left c.left' text → RunsText text budget c.held c.held' c.write_faults c.write_faults' s → HasReason words c text s
+  reason_of_run text budget (status.Done value turns) o r k = (r, record { budget = budget; ordered = o; ran = k })
+  reason_of_run text budget (status.Trap a turns) o r k = (r, record { budget = budget; ordered = o; ran = k })
+  reason_of_run text budget (status.Paused turns) o r k = (r, record { budget = budget; ordered = o; ran = k })
+  reason_of_run text budget (status.Refused x) o r k = ((budget, o), r, k.0, k.1, k.2)
+  reason_of_run text budget status.WriteFault o r k = (r, k.0, record { budget = budget; ordered = o; program = k.1.0; source = k.1.1; grew = k.1.2 })
+  reason_of_run text budget status.NoMemory o r k = ((budget, o), k)
+  reason_of_run text budget status.Usage o r k = absurd k
+  reason_of_run text budget status.ReadFault o r k = absurd k
+
+-- what was read is what the source told, where it isn't too long
+same_text : (told text : List ℕ) (a b : Option (List ℕ)) → a ≡ Some told → length told ≤ 2 ^ 20 → HasRead a b text → text ≡ told
+same_text told text None b e small r = absurd (let k : ⊥ = cc in k)
+same_text told text (Some held) None e small r = absurd r
+same_text told text (Some held) (Some rest) e small r =
+    let whole : told ≡ text ++ rest = cc in
+    let short : length text ≤ 2 ^ 20 = let l = length-append text rest in let k = ap length whole in omega arith in
+    sym (whole ∙ ap (λ (x : List ℕ). text ++ x) (r.1 short) ∙ append-nil text)
+
+-- nor where what was read isn't
+no_program : (told text : List ℕ) (a b : Option (List ℕ)) → a ≡ Some told → HasRead a b text → ((p : Program) → IsSource told p → ⊥) → (p : Program) → IsSource text p → ⊥
+no_program told text None b e r never p source = absurd (let k : ⊥ = cc in k)
+no_program told text (Some held) None e r never p source = r
+no_program told text (Some held) (Some rest) e r never p source =
+    let whole : told ≡ text ++ rest = cc in
+    let same = sym (whole ∙ ap (λ (x : List ℕ). text ++ x) (r.1 source.small) ∙ append-nil text) in
+    never p (let P : List ℕ → Type 0 = λ x. IsSource x p in subst P same source)
+
+one_or_three : (a b c x : List ℕ) → x ∷ [] ≡ a ∷ b ∷ c ∷ [] → ⊥
+one_or_three a b c x e = cc
+
+third_word : (a b c x y z : List ℕ) → a ∷ b ∷ c ∷ [] ≡ x ∷ y ∷ z ∷ [] → c ≡ z
+third_word a b c x y z e = cc
+
+-- words order one budget
+ordered_once : (words : List (List ℕ)) (m n : ℕ) → IsExec words m → IsExec words n → m ≡ n
+ordered_once words m n p q =
+    elim p [
+      inl v ↦ elim q [ inl w ↦ v.1 ∙ sym w.1 | inr w ↦ absurd (one_or_three _ _ _ _ (sym v.0 ∙ w.1)) ]
+    | inr v ↦ elim q [ inl w ↦ absurd (one_or_three _ _ _ _ (sym w.0 ∙ v.1)) | inr w ↦ sym v.2.value ∙ ap decimal_of (third_word _ _ _ _ _ _ (sym v.1 ∙ w.1)) ∙ w.2.value ]
+    ]
+
+-- all of the output is a beginning of it
+into : (words : List (List ℕ)) (text : List ℕ) (out out' : Option (List ℕ)) (e : Ending) (t : ℕ) → Ran words text out out' e t → RanInto words text out out'
+into words text out out' e t k = record {
+  budget = k.budget;
+  ordered = k.ordered;
+  program = k.ran.program;
+  source = k.ran.source;
+  grew = record { more = (meaning_in k.ran.program k.budget).output; missing = []; split = sym (append-nil (meaning_in k.ran.program k.budget).output); grew = k.ran.grew }
+}
+
+-- Statuses differ, and so do their parts.
+done_write : (value : ℤ) (turns : ℕ) → status.WriteFault ≡ status.Done value turns → ⊥
+done_write value turns e = cc
+
+trap_write : (a : Act) (turns : ℕ) → status.WriteFault ≡ status.Trap a turns → ⊥
+trap_write a turns e = cc
+
+paused_write : (turns : ℕ) → status.WriteFault ≡ status.Paused turns → ⊥
+paused_write turns e = cc
+
+usage_write : status.WriteFault ≡ status.Usage → ⊥
+usage_write e = cc
+
+refused_write : (r : Refusal) → status.WriteFault ≡ status.Refused r → ⊥
+refused_write r e = cc
+
+read_write : status.WriteFault ≡ status.ReadFault → ⊥
+read_write e = cc
+
+module _ (words : List (List ℕ)) (c : Changes) (err err' : Option (List ℕ)) (faults faults' : ℕ) (answer : Status) (h : HasAnswered words c err err' faults faults' answer) where
+  -- an answer that is no write fault has its own reason
+  own_reason : (s : Status) → (status.WriteFault ≡ s → ⊥) → answer ≡ s → HasReason words c h.text s
+  own_reason s other e = elim h.closed [
+      inl w ↦ (let P : Status → Type 0 = λ x. HasReason words c h.text x in subst P (sym w.0 ∙ e) h.reason)
+    | inr w ↦ absurd (other (sym w.0 ∙ e))
+    ]
+
+  pub has_done : (value : ℤ) (turns : ℕ) → answer ≡ status.Done value turns → RanSource words c (Ended value) turns
+  has_done value turns e = let r = own_reason (status.Done value turns) (done_write value turns) e in record { text = h.text; read = r.0; ran = r.1 }
+
+  pub has_trap : (a : Act) (turns : ℕ) → answer ≡ status.Trap a turns → RanSource words c (Met a) turns
+  has_trap a turns e = let r = own_reason (status.Trap a turns) (trap_write a turns) e in record { text = h.text; read = r.0; ran = r.1 }
+
+  pub has_paused : (turns : ℕ) → answer ≡ status.Paused turns → RanSource words c Paused turns
+  has_paused turns e = let r = own_reason (status.Paused turns) (paused_write turns) e in record { text = h.text; read = r.0; ran = r.1 }
+
+  pub has_usage : answer ≡ status.Usage → IsUsage words c
+  has_usage e = let r = own_reason status.Usage usage_write e in record { unordered = r.0; unread = r.1; unwritten = r.2 }
+
+  pub has_refused : (x : Refusal) → answer ≡ status.Refused x → IsRefused words c x
+  has_refused x e = let r = own_reason (status.Refused x) (refused_write x) e in record { text = h.text; ordered = r.0; read = r.1; unlike = r.2; refusal = r.3; unwritten = r.4 }
+
+  pub has_read_fault : answer ≡ status.ReadFault → Rose c.read_faults c.read_faults'
+  has_read_fault e = (own_reason status.ReadFault read_write e).1
+
+  pub has_write_fault : answer ≡ status.WriteFault → Rose c.write_faults c.write_faults' ⊎ Rose faults faults'
+  has_write_fault e = elim h.closed [
+      inl w ↦ (let P : Status → Type 0 = λ x. HasReason words c h.text x in inl (subst P (sym w.0 ∙ e) h.reason).1)
+    | inr w ↦ inr w.1
+    ]
+
+  written_by : (s : Status) → HasReason words c h.text s → IsWriteFault words c
+  written_by (status.Done value turns) r = inr (h.text, r.0, into words h.text c.held c.held' (Ended value) turns r.1)
+  written_by (status.Trap a turns) r = inr (h.text, r.0, into words h.text c.held c.held' (Met a) turns r.1)
+  written_by (status.Paused turns) r = inr (h.text, r.0, into words h.text c.held c.held' Paused turns r.1)
+  written_by status.Usage r = inl r.2
+  written_by (status.Refused x) r = inl r.4
+  written_by status.ReadFault r = inl r.2
+  written_by status.WriteFault r = inr (h.text, r.0, r.2)
+  written_by status.NoMemory r = inl r.1
+
+  pub has_written : IsWriteFault words c
+  has_written = written_by h.inner h.reason
+
+  ordered_by : (s : Status) → HasReason words c h.text s → ((turns : ℕ) → IsExec words turns → ⊥) → s ≡ status.Usage
+  ordered_by (status.Done value turns) r never = absurd (never r.1.budget r.1.ordered)
+  ordered_by (status.Trap a turns) r never = absurd (never r.1.budget r.1.ordered)
+  ordered_by (status.Paused turns) r never = absurd (never r.1.budget r.1.ordered)
+  ordered_by status.Usage r never = refl
+  ordered_by (status.Refused x) r never = absurd (never r.0.0 r.0.1)
+  ordered_by status.ReadFault r never = absurd (never r.0.0 r.0.1)
+  ordered_by status.WriteFault r never = absurd (never r.2.budget r.2.ordered)
+  ordered_by status.NoMemory r never = absurd (never r.0.0 r.0.1)
+
+  pub has_unordered : Unordered words faults faults' answer
+  has_unordered never = elim h.closed [ inl w ↦ inl (w.0 ∙ ordered_by h.inner h.reason never) | inr w ↦ inr (w.0, w.1) ]
+
+  refused_by : (s : Status) → HasReason words c h.text s → (text : List ℕ) (budget : ℕ) → IsExec words budget → c.left ≡ Some text → ((p : Program) → IsSource text p → ⊥)
+      → (Rose c.read_faults c.read_faults' → ⊥) → ((r : Refusal) × (s ≡ status.Refused r)) ⊎ (s ≡ status.NoMemory)
+  refused_by (status.Done value turns) r text budget o told never calm = absurd (no_program text h.text c.left c.left' told r.0 never r.1.ran.program r.1.ran.source.is)
+  refused_by (status.Trap a turns) r text budget o told never calm = absurd (no_program text h.text c.left c.left' told r.0 never r.1.ran.program r.1.ran.source.is)
+  refused_by (status.Paused turns) r text budget o told never calm = absurd (no_program text h.text c.left c.left' told r.0 never r.1.ran.program r.1.ran.source.is)
+  refused_by status.Usage r text budget o told never calm = absurd (r.0 budget o)
+  refused_by (status.Refused x) r text budget o told never calm = inl (x, refl)
+  refused_by status.ReadFault r text budget o told never calm = absurd (calm r.1)
+  refused_by status.WriteFault r text budget o told never calm = absurd (no_program text h.text c.left c.left' told r.0 never r.2.program r.2.source.is)
+  refused_by status.NoMemory r text budget o told never calm = inr refl
+
+  pub has_refuses : Refuses words c faults faults' answer
+  has_refuses budget text o told never calm quiet = elim h.closed [
+      inl w ↦ elim (refused_by h.inner h.reason text budget o told never calm) [ inl x ↦ inl (x.0, w.0 ∙ x.1) | inr e ↦ inr (w.0 ∙ e) ]
+    | inr w ↦ absurd (quiet w.1)
+    ]
+
+  module _ (budget : ℕ) (text : List ℕ) (p : Program) (o : IsExec words budget) (told : c.left ≡ Some text) (source : IsSource text p) where
+    ended_so : (e : Ending) (turns : ℕ) → HasRead c.left c.left' h.text → Ran words h.text c.held c.held' e turns → status_for turns e ≡ status_for (meaning_in p budget).turns (meaning_in p budget).ending
+    ended_so e turns r k =
+        let same = same_text text h.text c.left c.left' told source.small r in
+        let is : IsSource h.text p = (let P : List ℕ → Type 0 = λ x. IsSource x p in subst P (sym same) source) in
+        let program : p ≡ k.ran.program = k.ran.source.only p is in
+        let within : k.budget ≡ budget = ordered_once words k.budget budget k.ordered o in
+        let m : Meaning = meaning_in k.ran.program k.budget in
+        ap (λ (x : ℕ). status_for x e) (sym k.ran.turned) ∙ ap (λ (x : Ending). status_for m.turns x) (sym k.ran.ended)
+        ∙ ap (λ (q : Program). status_for (meaning_in q k.budget).turns (meaning_in q k.budget).ending) (sym program)
+        ∙ ap (λ (b : ℕ). status_for (meaning_in p b).turns (meaning_in p b).ending) within
+
+    completed_by : (s : Status) → HasReason words c h.text s → (Rose c.read_faults c.read_faults' → ⊥) → (Rose c.write_faults c.write_faults' → ⊥)
+        → (s ≡ status_for (meaning_in p budget).turns (meaning_in p budget).ending) ⊎ (s ≡ status.NoMemory)
+    completed_by (status.Done value turns) r calm quiet = inl (ended_so (Ended value) turns r.0 r.1)
+    completed_by (status.Trap a turns) r calm quiet = inl (ended_so (Met a) turns r.0 r.1)
+    completed_by (status.Paused turns) r calm quiet = inl (ended_so Paused turns r.0 r.1)
+    completed_by status.Usage r calm quiet = absurd (r.0 budget o)
+    completed_by (status.Refused x) r calm quiet =
+        let same = same_text text h.text c.left c.left' told source.small r.1 in
+        absurd (r.2 p (let P : List ℕ → Type 0 = λ x. IsSource x p in subst P (sym same) source))
+    completed_by status.ReadFault r calm quiet = absurd (calm r.1)
+    completed_by status.WriteFault r calm quiet = absurd (quiet r.1)
+    completed_by status.NoMemory r calm quiet = inr refl
+
+  pub has_completes : Completes words c faults faults' answer
+  has_completes budget text p o told source calm quiet still = elim h.closed [
+      inl w ↦ elim (completed_by budget text p o told source h.inner h.reason calm quiet) [ inl e ↦ inl (w.0 ∙ e) | inr e ↦ inr (w.0 ∙ e) ]
+    | inr w ↦ absurd (still w.1)
+    ]
+
+  pub has_line_or_prefix : HasLine words c err err' answer ⊎ (Rose faults faults' × HasLinePrefix words c err err')
+  has_line_or_prefix = elim h.closed [
+      inl w ↦ (let P : Status → Type 0 = λ x. HasLine words c err err' x in inl (subst P (sym w.0) (record { text = h.text; reason = h.reason; line = w.1 })))
+    | inr w ↦ inr (w.1, record { inner = h.inner; text = h.text; reason = h.reason; line = w.2 })
+    ]
+
+  pub has_line : (Rose faults faults' → ⊥) → HasLine words c err err' answer
+  has_line calm = elim has_line_or_prefix [ inl l ↦ l | inr w ↦ absurd (calm w.0) ]

@@ -1,0 +1,51 @@
+use Rattle.porch_cli.specs.Answers.{HasAnswered}
+use Rattle.porch_cli.proofs.Reasons.{has_done, has_trap, has_paused, has_usage, has_refused, has_read_fault, has_write_fault, has_written, has_unordered, has_refuses, has_completes, has_line, has_line_or_prefix}
+use Rattle.porch_cli.proofs.top.porch.Goals as goal
+
+-- the reason that the work gave, and the line that was written
+answered : goal.returns-clause-answered
+answered g c =
+    let closed = rw c.as_slice.ensures.value at c.close.ensures in
+    record { inner = c.work-status.result; text = c.work-status.new.text.items; reason = c.work-status.ensures.reason; closed = closed }
+
+pub returns-clause-answered : goal.returns-clause-answered
+returns-clause-answered g c = answered g c
+
+pub returns-clause-done : goal.returns-clause-done
+returns-clause-done g c = has_done _ _ _ _ _ _ _ (answered g c)
+
+pub returns-clause-trap : goal.returns-clause-trap
+returns-clause-trap g c = has_trap _ _ _ _ _ _ _ (answered g c)
+
+pub returns-clause-paused : goal.returns-clause-paused
+returns-clause-paused g c = has_paused _ _ _ _ _ _ _ (answered g c)
+
+pub returns-clause-usage : goal.returns-clause-usage
+returns-clause-usage g c = has_usage _ _ _ _ _ _ _ (answered g c)
+
+pub returns-clause-refused : goal.returns-clause-refused
+returns-clause-refused g c = has_refused _ _ _ _ _ _ _ (answered g c)
+
+pub returns-clause-read_fault : goal.returns-clause-read_fault
+returns-clause-read_fault g c = has_read_fault _ _ _ _ _ _ _ (answered g c)
+
+pub returns-clause-write_fault : goal.returns-clause-write_fault
+returns-clause-write_fault g c = has_write_fault _ _ _ _ _ _ _ (answered g c)
+
+pub returns-clause-written : goal.returns-clause-written
+returns-clause-written g c = λ _. has_written _ _ _ _ _ _ _ (answered g c)
+
+pub returns-clause-unordered : goal.returns-clause-unordered
+returns-clause-unordered g c = has_unordered _ _ _ _ _ _ _ (answered g c)
+
+pub returns-clause-refuses : goal.returns-clause-refuses
+returns-clause-refuses g c = has_refuses _ _ _ _ _ _ _ (answered g c)
+
+pub returns-clause-completes : goal.returns-clause-completes
+returns-clause-completes g c = has_completes _ _ _ _ _ _ _ (answered g c)
+
+pub returns-clause-closing : goal.returns-clause-closing
+returns-clause-closing g c = has_line _ _ _ _ _ _ _ (answered g c)
+
+pub returns-clause-closing_failed : goal.returns-clause-closing_failed
+returns-clause-closing_failed g c = has_line_or_prefix _ _ _ _ _ _ _ (answered g c)

@@ -1,0 +1,200 @@
+-- What each answer of the top call says.
+use Rattle.std.specs.Prelude.{ℕ, ◌≡◌, ◌≤◌, ◌<◌, ◌^◌, ◌⊎◌, List, [], ◌++◌, length, true, false, ⊤, Result, IsErrOf}
+use Rattle.std.specs.declared.option.Option.{Option}
+use Rattle.std.specs.declared.option.Option.TheVariants.{Some, None}
+use Rattle.porch_edge.specs.Causes.{Rose}
+use Rattle.porch_edge.specs.Streams.{Grew, GrewByPrefix}
+use Rattle.porch_syntax.specs.declared.refusal.Refusal.{Refusal}
+use Rattle.porch_syntax.specs.declared.refusal.SourceFault.{SourceFault}
+use Rattle.porch_syntax.specs.declared.refusal.SourceFault.TheVariants.{Refused, NoMemory}
+use Rattle.porch_syntax.specs.Tree.{Program}
+use Rattle.porch_syntax.specs.Language.{IsSource, IsRefusal}
+use Rattle.porch_meaning.specs.Types.{kinds}
+use Rattle.porch_meaning.specs.Integers.{Widths}
+use Rattle.porch_meaning.specs.Mean.{mean, Meaning, Ending, Ended, Met, Paused}
+use Rattle.porch_cli.specs.declared.reading.ReadStop.{ReadStop}
+use Rattle.porch_cli.specs.declared.reading.ReadStop.TheVariants as stop
+use Rattle.porch_machine.specs.declared.early.EarlyEnd.{EarlyEnd}
+use Rattle.porch_machine.specs.declared.early.EarlyEnd.TheVariants as end
+use Rattle.porch_cli.specs.declared.status.Status.{Status}
+use Rattle.porch_cli.specs.declared.status.Status.TheVariants as status
+use Rattle.porch_cli.specs.Words.{IsExec}
+use Rattle.porch_cli.specs.Lines.{line_of}
+
+-- the only width of long is 64 bits
+abbrev pub wide_only : Widths
+wide_only = record { narrow = false; wide = true }
+
+-- the meaning of a program that takes no input
+abbrev pub meaning_in : Program → ℕ → Meaning
+meaning_in p turns = mean kinds p wide_only turns []
+
+-- This much of the source was read: to its end, or past 1,048,576 bytes.
+abbrev pub HasRead : Option (List ℕ) → Option (List ℕ) → List ℕ → Type 0
+HasRead None left' text = left' ≡ None
+HasRead (Some held) None text = ⊥
+HasRead (Some held) (Some rest) text = (held ≡ text ++ rest) × (length text ≤ 2 ^ 20 → rest ≡ [])
+
+-- So much was taken from the source.
+abbrev pub HasTaken : Option (List ℕ) → Option (List ℕ) → List ℕ → Type 0
+HasTaken None left' text = left' ≡ None
+HasTaken (Some held) None text = ⊥
+HasTaken (Some held) (Some rest) text = held ≡ text ++ rest
+
+-- A source wasn't read for want of memory, or as a read failed.
+pub record HasReadCause (before now : ℕ) (r : Result (Unit {0}) ReadStop) : Type 0 where
+  pub later : before ≤ now
+  pub rose : IsErrOf r stop.ReadFault → Rose before now
+
+-- The text is that one program.
+pub record IsProgram (text : List ℕ) (p : Program) : Type 0 where
+  pub is : IsSource text p
+  pub only : (q : Program) → IsSource text q → q ≡ p
+
+-- A program was run to this end within a budget: its turns, and all of its output.
+pub record RanText (text : List ℕ) (budget : ℕ) (out out' : Option (List ℕ)) (ending : Ending) (turns : ℕ) : Type 0 where
+  pub program : Program
+  pub source : IsProgram text program
+  pub ended : (meaning_in program budget).ending ≡ ending
+  pub turned : (meaning_in program budget).turns ≡ turns
+  pub grew : Grew out out' (meaning_in program budget).output
+
+-- The words order a run within a budget, and the program was run so.
+pub record Ran (words : List (List ℕ)) (text : List ℕ) (out out' : Option (List ℕ)) (ending : Ending) (turns : ℕ) : Type 0 where
+  pub budget : ℕ
+  pub ordered : IsExec words budget
+  pub ran : RanText text budget out out' ending turns
+
+-- They do, and a beginning of the program's output was written.
+pub record RanInto (words : List (List ℕ)) (text : List ℕ) (out out' : Option (List ℕ)) : Type 0 where
+  pub budget : ℕ
+  pub ordered : IsExec words budget
+  pub program : Program
+  pub source : IsProgram text program
+  pub grew : GrewByPrefix out out' (meaning_in program budget).output
+
+-- what a call changed: the source and out, and how often each failed
+pub record Changes : Type 0 where
+  pub left : Option (List ℕ)
+  pub left' : Option (List ℕ)
+  pub read_faults : ℕ
+  pub read_faults' : ℕ
+  pub held : Option (List ℕ)
+  pub held' : Option (List ℕ)
+  pub write_faults : ℕ
+  pub write_faults' : ℕ
+
+-- The reason of each answer before its closing line is written, for the text that was read.
+abbrev pub HasReason : List (List ℕ) → Changes → List ℕ → Status → Type 0
+HasReason words c text (status.Done value turns) = HasRead c.left c.left' text × Ran words text c.held c.held' (Ended value) turns
+HasReason words c text (status.Trap a turns) = HasRead c.left c.left' text × Ran words text c.held c.held' (Met a) turns
+HasReason words c text (status.Paused turns) = HasRead c.left c.left' text × Ran words text c.held c.held' Paused turns
+HasReason words c text status.Usage = ((turns : ℕ) → IsExec words turns → ⊥) × (c.left' ≡ c.left) × Grew c.held c.held' []
+HasReason words c text (status.Refused r) =
+    ((budget : ℕ) × IsExec words budget) × HasRead c.left c.left' text × ((p : Program) → IsSource text p → ⊥) × IsRefusal text (Refused r) × Grew c.held c.held' []
+HasReason words c text status.ReadFault = ((budget : ℕ) × IsExec words budget) × Rose c.read_faults c.read_faults' × Grew c.held c.held' []
+HasReason words c text status.WriteFault = HasRead c.left c.left' text × Rose c.write_faults c.write_faults' × RanInto words text c.held c.held'
+HasReason words c text status.NoMemory = ((budget : ℕ) × IsExec words budget) × Grew c.held c.held' []
+
+-- What a run of a text gives. Contracts inside this crate cite it.
+abbrev pub RunsText : List ℕ → ℕ → Option (List ℕ) → Option (List ℕ) → ℕ → ℕ → Status → Type 0
+RunsText text budget out out' faults faults' (status.Done value turns) = RanText text budget out out' (Ended value) turns
+RunsText text budget out out' faults faults' (status.Trap a turns) = RanText text budget out out' (Met a) turns
+RunsText text budget out out' faults faults' (status.Paused turns) = RanText text budget out out' Paused turns
+RunsText text budget out out' faults faults' (status.Refused r) = ((p : Program) → IsSource text p → ⊥) × IsRefusal text (Refused r) × Grew out out' []
+RunsText text budget out out' faults faults' status.WriteFault = Rose faults faults' × ((p : Program) × IsProgram text p × GrewByPrefix out out' (meaning_in p budget).output)
+RunsText text budget out out' faults faults' status.NoMemory = Grew out out' []
+RunsText text budget out out' faults faults' _ = ⊥
+
+abbrev pub status_of : EarlyEnd → Status
+status_of (end.Ended value turns) = status.Done value turns
+status_of (end.Trap a turns) = status.Trap a turns
+status_of (end.Paused turns) = status.Paused turns
+status_of end.WriteFault = status.WriteFault
+status_of end.NoMemory = status.NoMemory
+
+abbrev pub refused_for : SourceFault → Status
+refused_for (Refused r) = status.Refused r
+refused_for NoMemory = status.NoMemory
+
+abbrev pub stopped_for : ReadStop → Status
+stopped_for stop.ReadFault = status.ReadFault
+stopped_for stop.NoMemory = status.NoMemory
+
+-- The closing line is written, or a beginning of it where the count of err rose, which is then the answer.
+abbrev pub Closes : Option (List ℕ) → Option (List ℕ) → ℕ → ℕ → List ℕ → Status → Status → Type 0
+Closes err err' faults faults' line inner answer =
+    ((answer ≡ inner) × Grew err err' line)
+    ⊎ ((answer ≡ status.WriteFault) × Rose faults faults' × GrewByPrefix err err' line)
+
+-- Why the top call gave its answer: a reason for the answer before its closing line, and that line.
+pub record HasAnswered (words : List (List ℕ)) (c : Changes) (err err' : Option (List ℕ)) (faults faults' : ℕ) (answer : Status) : Type 0 where
+  pub inner : Status
+  -- what was read of the source
+  pub text : List ℕ
+  pub reason : HasReason words c text inner
+  pub closed : Closes err err' faults faults' (line_of text inner) inner answer
+
+-- The source was read and its program run to this end.
+pub record RanSource (words : List (List ℕ)) (c : Changes) (ending : Ending) (turns : ℕ) : Type 0 where
+  pub text : List ℕ
+  pub read : HasRead c.left c.left' text
+  pub ran : Ran words text c.held c.held' ending turns
+
+-- The words aren't a command; nothing was read or written.
+pub record IsUsage (words : List (List ℕ)) (c : Changes) : Type 0 where
+  pub unordered : (turns : ℕ) → IsExec words turns → ⊥
+  pub unread : c.left' ≡ c.left
+  pub unwritten : Grew c.held c.held' []
+
+-- The source was read and is no program; nothing was written.
+pub record IsRefused (words : List (List ℕ)) (c : Changes) (r : Refusal) : Type 0 where
+  pub text : List ℕ
+  pub ordered : (budget : ℕ) × IsExec words budget
+  pub read : HasRead c.left c.left' text
+  pub unlike : (p : Program) → IsSource text p → ⊥
+  pub refusal : IsRefusal text (Refused r)
+  pub unwritten : Grew c.held c.held' []
+
+-- A beginning of the program's output was written, and a write of it or of the closing line failed; or nothing was
+-- written, and the closing line failed.
+abbrev pub IsWriteFault : List (List ℕ) → Changes → Type 0
+IsWriteFault words c = Grew c.held c.held' [] ⊎ ((text : List ℕ) × HasRead c.left c.left' text × RanInto words text c.held c.held')
+
+-- The line of this status was written, for the text that was read.
+pub record HasLine (words : List (List ℕ)) (c : Changes) (err err' : Option (List ℕ)) (s : Status) : Type 0 where
+  pub text : List ℕ
+  pub reason : HasReason words c text s
+  pub line : Grew err err' (line_of text s)
+
+-- A beginning of the line of some status was written, for which there was a reason.
+pub record HasLinePrefix (words : List (List ℕ)) (c : Changes) (err err' : Option (List ℕ)) : Type 0 where
+  pub inner : Status
+  pub text : List ℕ
+  pub reason : HasReason words c text inner
+  pub line : GrewByPrefix err err' (line_of text inner)
+
+-- the status of a meaning
+abbrev pub status_for : ℕ → Ending → Status
+status_for turns (Ended value) = status.Done value turns
+status_for turns (Met a) = status.Trap a turns
+status_for turns Paused = status.Paused turns
+
+-- A program that the words order to be run, from a source that tells it, where no count of faults rises, ends as its
+-- meaning does, unless memory is refused.
+abbrev pub Completes : List (List ℕ) → Changes → ℕ → ℕ → Status → Type 0
+Completes words c faults faults' answer =
+    (budget : ℕ) (text : List ℕ) (p : Program) → IsExec words budget → c.left ≡ Some text → IsSource text p
+    → (Rose c.read_faults c.read_faults' → ⊥) → (Rose c.write_faults c.write_faults' → ⊥) → (Rose faults faults' → ⊥)
+    → (answer ≡ status_for (meaning_in p budget).turns (meaning_in p budget).ending) ⊎ (answer ≡ status.NoMemory)
+
+-- Words that aren't a command are answered by Usage, unless the line fails.
+abbrev pub Unordered : List (List ℕ) → ℕ → ℕ → Status → Type 0
+Unordered words faults faults' answer = ((turns : ℕ) → IsExec words turns → ⊥) → (answer ≡ status.Usage) ⊎ ((answer ≡ status.WriteFault) × Rose faults faults')
+
+-- A source that tells no program is refused, unless a read fails, the line fails, or memory is refused.
+abbrev pub Refuses : List (List ℕ) → Changes → ℕ → ℕ → Status → Type 0
+Refuses words c faults faults' answer =
+    (budget : ℕ) (text : List ℕ) → IsExec words budget → c.left ≡ Some text → ((p : Program) → IsSource text p → ⊥)
+    → (Rose c.read_faults c.read_faults' → ⊥) → (Rose faults faults' → ⊥)
+    → ((r : Refusal) × (answer ≡ status.Refused r)) ⊎ (answer ≡ status.NoMemory)

@@ -1,0 +1,44 @@
+//! The answers of the top call.
+
+ghost use Rattle.std.specs.Prelude.{◌≡◌};
+ghost use Rattle.porch_cli.specs.Lines.{number_of};
+
+use porch_meaning::Act;
+use porch_syntax::Refusal;
+
+/// How a command ended.
+#[derive(Clone, Copy, Debug, PartialEq, Eq)]
+pub enum Status {
+    /// The program ended with a value after so many turns.
+    Done { value: i32, turns: u64 },
+    /// The words aren't a command.
+    Usage,
+    /// The source breaks a rule.
+    Refused(Refusal),
+    /// The program met an undefined act.
+    Trap { act: Act, turns: u64 },
+    /// A further turn would begin, and the budget is used.
+    Paused { turns: u64 },
+    /// The source failed.
+    ReadFault,
+    /// A sink failed.
+    WriteFault,
+    /// Memory was refused.
+    NoMemory,
+}
+
+/// The number that the process ends with.
+pub fn number_of_status(status: Status) -> u8
+    ensures { result ≡ number_of status }
+{
+    match status {
+        Status::Done { .. } => 0,
+        Status::Usage => 1,
+        Status::Refused(_) => 2,
+        Status::Trap { .. } => 3,
+        Status::Paused { .. } => 5,
+        Status::ReadFault => 12,
+        Status::WriteFault => 13,
+        Status::NoMemory => 15,
+    }
+}

@@ -1,0 +1,135 @@
+//! The top call.
+
+ghost use Rattle.std.specs.Prelude.{◌≡◌, ◌≤◌, ◌<◌, ◌+◌, ◌^◌, ◌⊎◌, ℕ, ℤ, map, length, string_bytes, []};
+ghost use Rattle.porch_edge.specs.Causes.{Rose};
+ghost use Rattle.porch_syntax.specs.declared.refusal.Refusal.{Refusal};
+ghost use Rattle.porch_meaning.specs.declared.act.Act.{Act};
+ghost use Rattle.porch_meaning.specs.Mean.{Ended, Met, Paused};
+ghost use Rattle.porch_cli.specs.Lines.{line_of};
+ghost use Rattle.porch_cli.specs.Answers.{HasReason, RunsText, status_of, refused_for, stopped_for, Closes, HasAnswered, RanSource, IsUsage, IsRefused, IsWriteFault, Unordered, Refuses, Completes, HasLine, HasLinePrefix};
+
+use std::alloc::Global;
+
+use porch_edge::{Sink, Source, write_all};
+use porch_machine::{EarlyEnd, early_run};
+use porch_syntax::{SourceFault, parse};
+
+use crate::line::line_of_status;
+use crate::reading::{ReadStop, read_source};
+use crate::status::Status;
+use crate::words::read_words;
+
+/// The status of a run that ended so.
+fn status_of_end(end: EarlyEnd) -> Status
+    ensures { result ≡ status_of end }
+{
+    match end {
+        EarlyEnd::Ended { value, turns } => Status::Done { value, turns },
+        EarlyEnd::Trap { act, turns } => Status::Trap { act, turns },
+        EarlyEnd::Paused { turns } => Status::Paused { turns },
+        EarlyEnd::WriteFault => Status::WriteFault,
+        EarlyEnd::NoMemory => Status::NoMemory,
+    }
+}
+
+/// The status of a text that has no tree.
+fn status_of_fault(fault: SourceFault) -> Status
+    ensures { result ≡ refused_for fault }
+{
+    match fault {
+        SourceFault::Refused(refusal) => Status::Refused(refusal),
+        SourceFault::NoMemory => Status::NoMemory,
+    }
+}
+
+/// The status of a source that wasn't read.
+fn status_of_stop(stop: ReadStop) -> Status
+    ensures { result ≡ stopped_for stop }
+{
+    match stop {
+        ReadStop::ReadFault => Status::ReadFault,
+        ReadStop::NoMemory => Status::NoMemory,
+    }
+}
+
+/// Runs the program that a text is, for at most so many turns.
+fn run_text<O: Sink>(alloc: Global, text: &[u8], turns: u64, out: &mut O) -> Status
+    ensures runs { RunsText text.now turns (O.held out.old) (O.held out.new) (O.faults out.old) (O.faults out.new) result }
+    ensures later { O.faults out.old ≤ O.faults out.new }
+{
+    match parse(alloc, text) {
+        Ok(tree) => status_of_end(early_run(alloc, &tree, turns, out)),
+        Err(fault) => status_of_fault(fault),
+    }
+}
+
+/// Does what the words order, up to the closing line. `text` gets what was read of the source.
+fn work<S: Source, O: Sink>(
+    alloc: Global,
+    words: &[String],
+    source: &mut S,
+    out: &mut O,
+    text: &mut Vec<u8>,
+) -> Status
+    requires { text.old.items ≡ [] }
+    ensures reason { HasReason (map (λ word. string_bytes word) words.now) (record { left = S.left source.old; left' = S.left source.new; read_faults = S.faults source.old; read_faults' = S.faults source.new; held = O.held out.old; held' = O.held out.new; write_faults = O.faults out.old; write_faults' = O.faults out.new }) text.new.items result }
+    ensures short { length text.new.items ≤ 2 ^ 20 + 4096 }
+{
+    let Some(turns) = read_words(words) else {
+        return Status::Usage;
+    };
+    match read_source(source, text) {
+        Ok(()) => run_text(alloc, text.as_slice(), turns, out),
+        Err(stop) => status_of_stop(stop),
+    }
+}
+
+/// Writes the closing line, and answers the status, or WriteFault where the line failed.
+pub fn close<E: Sink>(text: &[u8], status: Status, err: &mut E) -> Status
+    requires { length text.now < 2 ^ 32 }
+    ensures { Closes (E.held err.old) (E.held err.new) (E.faults err.old) (E.faults err.new) (line_of text.now status) status result }
+{
+    let line = line_of_status(text, status);
+    match write_all(err, line.as_str().as_bytes()) {
+        Ok(()) => status,
+        Err(_) => Status::WriteFault,
+    }
+}
+
+/// Does what the words order, and writes the closing line of its answer to `err`.
+///
+/// `exec` reads a program's text from `source`, runs it, and writes its output to `out` byte by byte.
+pub fn porch<S: Source, O: Sink, E: Sink>(
+    alloc: Global,
+    words: &[String],
+    source: &mut S,
+    out: &mut O,
+    err: &mut E,
+) -> Status
+    ensures answered { HasAnswered (map (λ word. string_bytes word) words.now) (record { left = S.left source.old; left' = S.left source.new; read_faults = S.faults source.old; read_faults' = S.faults source.new; held = O.held out.old; held' = O.held out.new; write_faults = O.faults out.old; write_faults' = O.faults out.new }) (E.held err.old) (E.held err.new) (E.faults err.old) (E.faults err.new) result }
+
+    // The run of a program: its end, its turns and its whole output are those of its meaning.
+    ensures done { (value : ℤ) (turns : ℕ) → result ≡ Status.Done value turns → RanSource (map (λ word. string_bytes word) words.now) (record { left = S.left source.old; left' = S.left source.new; read_faults = S.faults source.old; read_faults' = S.faults source.new; held = O.held out.old; held' = O.held out.new; write_faults = O.faults out.old; write_faults' = O.faults out.new }) (Ended value) turns }
+    ensures trap { (act : Act) (turns : ℕ) → result ≡ Status.Trap act turns → RanSource (map (λ word. string_bytes word) words.now) (record { left = S.left source.old; left' = S.left source.new; read_faults = S.faults source.old; read_faults' = S.faults source.new; held = O.held out.old; held' = O.held out.new; write_faults = O.faults out.old; write_faults' = O.faults out.new }) (Met act) turns }
+    ensures paused { (turns : ℕ) → result ≡ Status.Paused turns → RanSource (map (λ word. string_bytes word) words.now) (record { left = S.left source.old; left' = S.left source.new; read_faults = S.faults source.old; read_faults' = S.faults source.new; held = O.held out.old; held' = O.held out.new; write_faults = O.faults out.old; write_faults' = O.faults out.new }) Paused turns }
+
+    // The refusals, and the faults.
+    ensures usage { result ≡ Status.Usage → IsUsage (map (λ word. string_bytes word) words.now) (record { left = S.left source.old; left' = S.left source.new; read_faults = S.faults source.old; read_faults' = S.faults source.new; held = O.held out.old; held' = O.held out.new; write_faults = O.faults out.old; write_faults' = O.faults out.new }) }
+    ensures refused { (refusal : Refusal) → result ≡ Status.Refused refusal → IsRefused (map (λ word. string_bytes word) words.now) (record { left = S.left source.old; left' = S.left source.new; read_faults = S.faults source.old; read_faults' = S.faults source.new; held = O.held out.old; held' = O.held out.new; write_faults = O.faults out.old; write_faults' = O.faults out.new }) refusal }
+    ensures read_fault { result ≡ Status.ReadFault → Rose (S.faults source.old) (S.faults source.new) }
+    ensures write_fault { result ≡ Status.WriteFault → Rose (O.faults out.old) (O.faults out.new) ⊎ Rose (E.faults err.old) (E.faults err.new) }
+    ensures written { result ≡ Status.WriteFault → IsWriteFault (map (λ word. string_bytes word) words.now) (record { left = S.left source.old; left' = S.left source.new; read_faults = S.faults source.old; read_faults' = S.faults source.new; held = O.held out.old; held' = O.held out.new; write_faults = O.faults out.old; write_faults' = O.faults out.new }) }
+
+    // The other way round: no answer is given up, unless memory is refused.
+    ensures unordered { Unordered (map (λ word. string_bytes word) words.now) (E.faults err.old) (E.faults err.new) result }
+    ensures refuses { Refuses (map (λ word. string_bytes word) words.now) (record { left = S.left source.old; left' = S.left source.new; read_faults = S.faults source.old; read_faults' = S.faults source.new; held = O.held out.old; held' = O.held out.new; write_faults = O.faults out.old; write_faults' = O.faults out.new }) (E.faults err.old) (E.faults err.new) result }
+    ensures completes { Completes (map (λ word. string_bytes word) words.now) (record { left = S.left source.old; left' = S.left source.new; read_faults = S.faults source.old; read_faults' = S.faults source.new; held = O.held out.old; held' = O.held out.new; write_faults = O.faults out.old; write_faults' = O.faults out.new }) (E.faults err.old) (E.faults err.new) result }
+
+    // The closing line, and no more, unless it failed.
+    ensures closing { (Rose (E.faults err.old) (E.faults err.new) → ⊥) → HasLine (map (λ word. string_bytes word) words.now) (record { left = S.left source.old; left' = S.left source.new; read_faults = S.faults source.old; read_faults' = S.faults source.new; held = O.held out.old; held' = O.held out.new; write_faults = O.faults out.old; write_faults' = O.faults out.new }) (E.held err.old) (E.held err.new) result }
+    ensures closing_failed { HasLine (map (λ word. string_bytes word) words.now) (record { left = S.left source.old; left' = S.left source.new; read_faults = S.faults source.old; read_faults' = S.faults source.new; held = O.held out.old; held' = O.held out.new; write_faults = O.faults out.old; write_faults' = O.faults out.new }) (E.held err.old) (E.held err.new) result ⊎ (Rose (E.faults err.old) (E.faults err.new) × HasLinePrefix (map (λ word. string_bytes word) words.now) (record { left = S.left source.old; left' = S.left source.new; read_faults = S.faults source.old; read_faults' = S.faults source.new; held = O.held out.old; held' = O.held out.new; write_faults = O.faults out.old; write_faults' = O.faults out.new }) (E.held err.old) (E.held err.new)) }
+{
+    let mut text = Vec::new(alloc);
+    let status = work(alloc, words, source, out, &mut text);
+    close(text.as_slice(), status, err)
+}

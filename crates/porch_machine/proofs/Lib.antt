@@ -1,0 +1,10 @@
+pub mod Values
+pub mod Stores
+pub mod Growth
+pub mod Assigns
+pub mod Joins
+pub mod Views
+pub mod Loops
+pub mod Statements
+pub mod Declarations
+pub mod Ends
