@@ -1,11 +1,9 @@
 -- Which texts are programs, and which tree each of them has.
-use Rattle.std.specs.Prelude.{ℕ, ◌≡◌, ◌≢◌, ◌≤◌, ◌<◌, ◌+◌, ◌-◌, ◌^◌, max, List, [], ◌∷◌, ◌++◌, length, IsTrue, Option, Some, None, ⊤, slice_get}
-use Rattle.std.specs.List.{list_all}
+use Rattle.std.specs.Prelude.{ℕ, ◌≡◌, ◌≢◌, ◌≤◌, ◌<◌, ◌+◌, ◌-◌, ◌^◌, max, List, [], ◌∷◌, ◌++◌, length, IsTrue, Option, Some, None, ⊤}
 use Rattle.porch_syntax.specs.declared.token.Token.{Token}
 use Rattle.porch_syntax.specs.declared.token.Token.TheVariants as token
 use Rattle.porch_syntax.specs.declared.tree.Sign.{Sign}
 use Rattle.porch_syntax.specs.declared.tree.Sign.TheVariants as sign
-use Rattle.porch_syntax.specs.declared.refusal.Refusal.{Refusal}
 use Rattle.porch_syntax.specs.declared.refusal.Rule.TheVariants.{TooLarge, Unbuilt}
 use Rattle.porch_syntax.specs.declared.refusal.SourceFault.{SourceFault}
 use Rattle.porch_syntax.specs.declared.refusal.SourceFault.TheVariants.{Refused, NoMemory}

@@ -1,6 +1,6 @@
 -- How a text spells tokens.
-use Rattle.std.specs.Prelude.{ℕ, ℤ, pos, ◌≡◌, ◌≢◌, ◌≤◌, ◌<◌, ◌+◌, ◌-◌, ◌*◌, ◌^◌, ◌==◌, nat_le, ◌&&◌, ◌||◌, not, Bool, true, false, IsTrue, List, [], ◌∷◌, ◌++◌, length, fold, codes, slice_get, Option, Some, None, ⊤}
-use Rattle.std.specs.List.{list_all, list_any}
+use Rattle.std.specs.Prelude.{ℕ, pos, ◌≡◌, ◌<◌, ◌+◌, ◌-◌, ◌*◌, ◌^◌, ◌==◌, nat_le, ◌&&◌, ◌||◌, not, Bool, true, false, IsTrue, List, [], ◌∷◌, ◌++◌, fold, codes, slice_get, Some}
+use Rattle.std.specs.List.{list_all}
 use Rattle.porch_syntax.specs.declared.token.Token.{Token}
 use Rattle.porch_syntax.specs.declared.token.Token.TheVariants.{Int, Main, Void, While, Return, Putchar, Name, Whole, Character, OpenParenthesis, CloseParenthesis, OpenBrace, CloseBrace, Semicolon, Assign, Less, Plus, Minus, Star}
 

@@ -2,11 +2,20 @@
 //!
 //! `tree` has the tree, `refusal` what a text is refused with, and `parse` the one call. What the language is stands
 //! in `specs/`: `Token` says how a text spells tokens, and `Language` which tokens a tree has and which texts are
-//! programs.
+//! programs. The files behind the call: `lexer` splits the text into tokens, each a piece that `lexeme` names, and
+//! `program` reads them one by one, through `statement` and `expression`. Nothing recurses over the text: open
+//! parentheses and blocks are kept in lists.
 #![tactic(auto)]
 
+mod expression;
+mod lexeme;
+mod lexer;
 pub mod parser;
+mod program;
 pub mod refusal;
+mod statement;
+#[cfg(test)]
+mod tests;
 pub mod token;
 pub mod tree;
 

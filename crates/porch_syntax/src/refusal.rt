@@ -1,10 +1,10 @@
 //! What a source text is refused with.
 
-use std::alloc::{AllocError, AllocFailed};
-use thiserror::Error;
-
 ghost use Rattle.porch_syntax.specs.declared.refusal.SourceFault.TheVariants.{NoMemory};
 ghost use Rattle.std.specs.Prelude.{◌≡◌};
+
+use std::alloc::{AllocError, AllocFailed};
+use thiserror::Error;
 
 /// The rules that a source text can break.
 #[derive(Clone, Copy, Debug, PartialEq, Eq)]

@@ -1,0 +1,11 @@
+pub mod Lists
+pub mod Blocks
+pub mod Pieces
+pub mod Lex
+pub mod Complete
+pub mod Shown
+pub mod Stated
+pub mod Numbers
+pub mod Spelled
+pub mod Texts
+pub mod Parses
