@@ -96,8 +96,8 @@ third_word a b c x y z e = cc
 ordered_once : (words : List (List ℕ)) (m n : ℕ) → IsExec words m → IsExec words n → m ≡ n
 ordered_once words m n p q =
     elim p [
-      inl v ↦ elim q [ inl w ↦ v.1 ∙ sym w.1 | inr w ↦ absurd (one_or_three _ _ _ _ (sym v.0 ∙ w.1)) ]
-    | inr v ↦ elim q [ inl w ↦ absurd (one_or_three _ _ _ _ (sym w.0 ∙ v.1)) | inr w ↦ sym v.2.value ∙ ap decimal_of (third_word _ _ _ _ _ _ (sym v.1 ∙ w.1)) ∙ w.2.value ]
+      | inl v ↦ elim q [ inl w ↦ v.1 ∙ sym w.1 | inr w ↦ absurd (one_or_three _ _ _ _ (sym v.0 ∙ w.1)) ]
+      | inr v ↦ elim q [ inl w ↦ absurd (one_or_three _ _ _ _ (sym w.0 ∙ v.1)) | inr w ↦ sym v.2.value ∙ ap decimal_of (third_word _ _ _ _ _ _ (sym v.1 ∙ w.1)) ∙ w.2.value ]
     ]
 
 -- all of the output is a beginning of it
@@ -107,7 +107,7 @@ into words text out out' e t k = record {
   ordered = k.ordered;
   program = k.ran.program;
   source = k.ran.source;
-  grew = record { more = (meaning_in k.ran.program k.budget).output; missing = []; split = sym (append-nil (meaning_in k.ran.program k.budget).output); grew = k.ran.grew }
+  grew = record { more = (meaning_in k.ran.program k.budget).output; missing = []; split = sym (append-nil (meaning_in k.ran.program k.budget).output); grew = k.ran.grew };
 }
 
 -- Statuses differ, and so do their parts.
@@ -133,9 +133,9 @@ module _ (words : List (List ℕ)) (c : Changes) (err err' : Option (List ℕ)) 
   -- an answer that is no write fault has its own reason
   own_reason : (s : Status) → (status.WriteFault ≡ s → ⊥) → answer ≡ s → HasReason words c h.text s
   own_reason s other e = elim h.closed [
-      inl w ↦ (let P : Status → Type 0 = λ x. HasReason words c h.text x in subst P (sym w.0 ∙ e) h.reason)
+    | inl w ↦ (let P : Status → Type 0 = λ x. HasReason words c h.text x in subst P (sym w.0 ∙ e) h.reason)
     | inr w ↦ absurd (other (sym w.0 ∙ e))
-    ]
+  ]
 
   pub has_done : (value : ℤ) (turns : ℕ) → answer ≡ status.Done value turns → RanSource words c (Ended value) turns
   has_done value turns e = let r = own_reason (status.Done value turns) (done_write value turns) e in record { text = h.text; read = r.0; ran = r.1 }
@@ -157,9 +157,9 @@ module _ (words : List (List ℕ)) (c : Changes) (err err' : Option (List ℕ)) 
 
   pub has_write_fault : answer ≡ status.WriteFault → Rose c.write_faults c.write_faults' ⊎ Rose faults faults'
   has_write_fault e = elim h.closed [
-      inl w ↦ (let P : Status → Type 0 = λ x. HasReason words c h.text x in inl (subst P (sym w.0 ∙ e) h.reason).1)
+    | inl w ↦ (let P : Status → Type 0 = λ x. HasReason words c h.text x in inl (subst P (sym w.0 ∙ e) h.reason).1)
     | inr w ↦ inr w.1
-    ]
+  ]
 
   written_by : (s : Status) → HasReason words c h.text s → IsWriteFault words c
   written_by (status.Done value turns) r = inr (h.text, r.0, into words h.text c.held c.held' (Ended value) turns r.1)
@@ -200,9 +200,9 @@ module _ (words : List (List ℕ)) (c : Changes) (err err' : Option (List ℕ)) 
 
   pub has_refuses : Refuses words c faults faults' answer
   has_refuses budget text o told never calm quiet = elim h.closed [
-      inl w ↦ elim (refused_by h.inner h.reason text budget o told never calm) [ inl x ↦ inl (x.0, w.0 ∙ x.1) | inr e ↦ inr (w.0 ∙ e) ]
+    | inl w ↦ elim (refused_by h.inner h.reason text budget o told never calm) [ inl x ↦ inl (x.0, w.0 ∙ x.1) | inr e ↦ inr (w.0 ∙ e) ]
     | inr w ↦ absurd (quiet w.1)
-    ]
+  ]
 
   module _ (budget : ℕ) (text : List ℕ) (p : Program) (o : IsExec words budget) (told : c.left ≡ Some text) (source : IsSource text p) where
     ended_so : (e : Ending) (turns : ℕ) → HasRead c.left c.left' h.text → Ran words h.text c.held c.held' e turns → status_for turns e ≡ status_for (meaning_in p budget).turns (meaning_in p budget).ending
@@ -231,15 +231,15 @@ module _ (words : List (List ℕ)) (c : Changes) (err err' : Option (List ℕ)) 
 
   pub has_completes : Completes words c faults faults' answer
   has_completes budget text p o told source calm quiet still = elim h.closed [
-      inl w ↦ elim (completed_by budget text p o told source h.inner h.reason calm quiet) [ inl e ↦ inl (w.0 ∙ e) | inr e ↦ inr (w.0 ∙ e) ]
+    | inl w ↦ elim (completed_by budget text p o told source h.inner h.reason calm quiet) [ inl e ↦ inl (w.0 ∙ e) | inr e ↦ inr (w.0 ∙ e) ]
     | inr w ↦ absurd (still w.1)
-    ]
+  ]
 
   pub has_line_or_prefix : HasLine words c err err' answer ⊎ (Rose faults faults' × HasLinePrefix words c err err')
   has_line_or_prefix = elim h.closed [
-      inl w ↦ (let P : Status → Type 0 = λ x. HasLine words c err err' x in inl (subst P (sym w.0) (record { text = h.text; reason = h.reason; line = w.1 })))
+    | inl w ↦ (let P : Status → Type 0 = λ x. HasLine words c err err' x in inl (subst P (sym w.0) (record { text = h.text; reason = h.reason; line = w.1 })))
     | inr w ↦ inr (w.1, record { inner = h.inner; text = h.text; reason = h.reason; line = w.2 })
-    ]
+  ]
 
   pub has_line : (Rose faults faults' → ⊥) → HasLine words c err err' answer
   has_line calm = elim has_line_or_prefix [ inl l ↦ l | inr w ↦ absurd (calm w.0) ]

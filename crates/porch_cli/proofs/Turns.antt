@@ -51,20 +51,23 @@ value_behind-reads n (d ∷ ds) h k =
 -- the number of turns that a word names, and no other
 pub turns_named : (word : List ℕ) (v : ℕ) → 1 ≤ length word → length word ≤ 19 → 1 ≤ v → v ≤ 2 ^ 62 → Some v ≡ value_behind 0 word → (t : ℕ) → (Some v ≡ Some t) ↔ IsTurns word t
 turns_named word v some short least greatest e t =
-    let is = value_behind-is 0 word v (sym e) in
-    ( λ h. let same = same_some v t h in record { some = some; short = short; digits = is.0; value = is.1 ∙ same; least = omega arith; greatest = omega arith }
-    , λ h. ap (λ (n : ℕ). Some n) (sym is.1 ∙ h.value) )
+    let is = value_behind-is 0 word v (sym e) in (
+      λ h. let same = same_some v t h in record { some = some; short = short; digits = is.0; value = is.1 ∙ same; least = omega arith; greatest = omega arith },
+      λ h. ap (λ (n : ℕ). Some n) (sym is.1 ∙ h.value),
+    )
 
 pub turns_out_of_range : (word : List ℕ) (v : ℕ) → (v ≡ 0) ⊎ (2 ^ 62 < v) → Some v ≡ value_behind 0 word → (t : ℕ) → (let o : Option ℕ = None in o ≡ Some t) ↔ IsTurns word t
 turns_out_of_range word v out e t =
-    let is = value_behind-is 0 word v (sym e) in
-    ( λ h. absurd (none_some t h)
-    , λ h. absurd (let same = sym is.1 ∙ h.value in let least = h.least in let greatest = h.greatest in elim out [ inl z ↦ omega arith | inr z ↦ omega arith ]) )
+    let is = value_behind-is 0 word v (sym e) in (
+      λ h. absurd (none_some t h),
+      λ h. absurd (let same = sym is.1 ∙ h.value in let least = h.least in let greatest = h.greatest in elim out [ inl z ↦ omega arith | inr z ↦ omega arith ]),
+    )
 
 pub turns_unread : (word : List ℕ) → (let o : Option ℕ = None in o ≡ value_behind 0 word) → (t : ℕ) → (let o : Option ℕ = None in o ≡ Some t) ↔ IsTurns word t
-turns_unread word e t =
-    ( λ h. absurd (none_some t h)
-    , λ h. absurd (none_some (fold next 0 word) (e ∙ value_behind-reads 0 word h.digits (let value = h.value in let greatest = h.greatest in omega arith))) )
+turns_unread word e t = (
+  λ h. absurd (none_some t h),
+  λ h. absurd (none_some (fold next 0 word) (e ∙ value_behind-reads 0 word h.digits (let value = h.value in let greatest = h.greatest in omega arith))),
+)
 
 -- a list of three
 pub three : {X : Type 0} (xs : List X) (a b c : X) → 3 ≤ length xs → length xs < 4 → a ≡ get_or xs 0 a → b ≡ get_or xs 1 b → c ≡ get_or xs 2 c → xs ≡ a ∷ b ∷ c ∷ []
@@ -82,6 +85,7 @@ same_third a b c x y z e = cc
 
 -- the words of a run with a number of turns
 pub ordered_by_three : (a b c : List ℕ) (r : Option ℕ) → a ≡ codes "exec" → b ≡ codes "--turns" → ((t : ℕ) → (r ≡ Some t) ↔ IsTurns c t) → (t : ℕ) → (r ≡ Some t) ↔ IsExec (a ∷ b ∷ c ∷ []) t
-ordered_by_three a b c r e f h t =
-    ( λ k. inr (c, rw (e, f) refl, (h t).0 k)
-    , λ k. elim k [ inl w ↦ absurd (not_one a b c _ w.0) | inr w ↦ (h t).1 (let P : List ℕ → Type 0 = λ x. IsTurns x t in subst P (sym (same_third a b c _ _ w.0 w.1)) w.2) ] )
+ordered_by_three a b c r e f h t = (
+  λ k. inr (c, rw (e, f) refl, (h t).0 k),
+  λ k. elim k [ inl w ↦ absurd (not_one a b c _ w.0) | inr w ↦ (h t).1 (let P : List ℕ → Type 0 = λ x. IsTurns x t in subst P (sym (same_third a b c _ _ w.0 w.1)) w.2) ],
+)

@@ -5,12 +5,11 @@ ghost use Rattle.std.specs.Fmt.{decimal, signed_decimal};
 ghost use Rattle.arrayvec.specs.ArrayString.{array_string_len};
 ghost use Rattle.porch_cli.specs.Lines.{rule_name, act_name, line_at, column_at, said_of, line_of};
 
+use crate::status::Status;
 use arrayvec::ArrayString;
 use itoa::Buffer;
 use porch_meaning::Act;
 use porch_syntax::{Refusal, Rule};
-
-use crate::status::Status;
 
 /// A line that is put together without memory. The longest has 67 bytes.
 type Line = ArrayString<128>;

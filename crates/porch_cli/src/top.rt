@@ -8,16 +8,14 @@ ghost use Rattle.porch_meaning.specs.Mean.{Ended, Met, Paused};
 ghost use Rattle.porch_cli.specs.Lines.{line_of};
 ghost use Rattle.porch_cli.specs.Answers.{HasReason, RunsText, status_of, refused_for, stopped_for, Closes, HasAnswered, RanSource, IsUsage, IsRefused, IsWriteFault, Unordered, Refuses, Completes, HasLine, HasLinePrefix};
 
-use std::alloc::Global;
-
-use porch_edge::{Sink, Source, write_all};
-use porch_machine::{EarlyEnd, early_run};
-use porch_syntax::{SourceFault, parse};
-
 use crate::line::line_of_status;
 use crate::reading::{ReadStop, read_source};
 use crate::status::Status;
 use crate::words::read_words;
+use porch_edge::{Sink, Source, write_all};
+use porch_machine::{EarlyEnd, early_run};
+use porch_syntax::{SourceFault, parse};
+use std::alloc::Global;
 
 /// The status of a run that ended so.
 fn status_of_end(end: EarlyEnd) -> Status

@@ -6,7 +6,7 @@ abbrev pub invariant-loop-piece : goal.invariant-loop-piece
 invariant-loop-piece g l = record {
   taken : HasTaken (g.S.Source.left l.fn.source) (g.S.Source.left l.source) l.text.items;
   later : g.S.Source.faults l.fn.source ≤ g.S.Source.faults l.source;
-  short : length l.text.items ≤ 2 ^ 20 + 4096
+  short : length l.text.items ≤ 2 ^ 20 + 4096;
 }
 
 -- what may still come
