@@ -185,7 +185,7 @@ fn nested(alloc: Global, depth: usize) -> Result<Vec<u8>, AllocError> {
 /// A program with spaces behind it, of so many bytes.
 fn padded(alloc: Global, length: usize) -> Result<Vec<u8>, AllocError> {
     let mut text = Vec::from_slice(alloc, b"int main(void){return 7;}")?;
-    while text.len() < length {
+    for _ in text.len()..length {
         text.push(b' ')?;
     }
     Ok(text)

@@ -11,7 +11,7 @@ begun a b c bytes k p q = record {
   more = take k bytes ++ [];
   missing = drop k bytes;
   split = sym (append_assoc (take k bytes) [] (drop k bytes) ∙ take-append-drop k bytes);
-  grew = Grew-twice a b c (take k bytes) [] p q
+  grew = Grew-twice a b c (take k bytes) [] p q;
 }
 
 -- the first k bytes and then n of the others: the first k + n

@@ -1,3 +1,11 @@
 pub mod Causes
 pub mod Streams
+pub mod MemoryStreams
+pub mod Files
+pub mod Disk
+pub mod Calls
+pub mod Plan
+pub mod Picks
+pub mod Laws
+pub mod Props
 pub mod Memory

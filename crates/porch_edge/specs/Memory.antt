@@ -1,45 +1,51 @@
--- The streams in memory.
-use Rattle.std.specs.Prelude.{ℕ, ◌+◌, ◌-◌, ◌^◌, ◌≡◌, ◌==◌, nat_eq, min, List, ◌++◌, length, take, drop, Bool, if◌then◌else◌, ⊤}
-use Rattle.std.specs.List.{list_any}
-use Rattle.std.specs.Bool.{OnTrue, OnFalse}
-use Rattle.std.specs.Prelude.{IsErr, OnErr, IfOk}
-use Rattle.std.specs.declared.result.Result.{Result}
-use Rattle.std.specs.declared.result.Result.TheVariants.{Ok, Err}
+-- What a disk in memory tells.
+use Rattle.std.specs.Prelude.{◌⊎◌, OnOk, Result, ℕ, List, ◌≡◌, [], reverse}
+use Rattle.std.specs.declared.option.Option.TheVariants.{None}
+use Rattle.porch_edge.specs.declared.disk.FileName.{FileName}
+use Rattle.porch_edge.specs.declared.memory_disk.MemDisk.{MemDisk}
+use Rattle.porch_edge.specs.declared.memory_plan.Plan.{Plan}
+use Rattle.porch_edge.specs.declared.memory_plan.Fate.TheVariants.{Goes, Fails}
 use Rattle.porch_edge.specs.declared.failed.Failed.{Failed}
+use Rattle.porch_edge.specs.Plan.{next_fate, plan_after}
+use Rattle.porch_edge.specs.Files.{Files, file_of}
+use Rattle.porch_edge.specs.Disk.{DiskState}
+use Rattle.porch_edge.specs.Calls.{memory_state}
+use Rattle.porch_edge.specs.Picks.{revived}
 
--- one more, up to the end of the range
-abbrev pub next : ℕ → ℕ
-next n = min (n + 1) (2 ^ 64 - 1)
+-- what reads give
+abbrev pub files_held : MemDisk → Files
+files_held disk = disk.files
 
-abbrev pub is_listed : ℕ → List ℕ → Bool
-is_listed n ns = list_any (λ m. nat_eq m n) ns
+-- what it tells, by its calls, of which the last stands first
+abbrev pub mem_state : MemDisk → DiskState
+mem_state disk = memory_state disk.files (reverse disk.calls.items)
 
--- a source: the bytes left, the numbers of the calls that fail, the calls made, the faults
-pub record Feed : Type 0 where
-  pub left : List ℕ
-  pub fails : List ℕ
-  pub calls : ℕ
-  pub faults : ℕ
+-- which of its calls are to fail
+abbrev pub plan_of : MemDisk → Plan
+plan_of disk = disk.plan
 
--- A read fails where its number is named. Else it gives as many bytes as fit and are left.
-pub record ReadsFeed (old new : Feed) (result : Result ℕ Failed) (buf : List ℕ) : Type 0 where
-  pub called : new.calls ≡ next old.calls
-  pub kept : new.fails ≡ old.fails
-  pub counted : new.faults ≡ (if is_listed new.calls old.fails then next old.faults else old.faults)
-  pub named : OnTrue (is_listed new.calls old.fails) (IsErr result)
-  pub whole : OnFalse (is_listed new.calls old.fails) (result ≡ Ok (min (length buf) (length old.left)))
+-- a crash leaves what a read of this file gives
+abbrev pub IsDurable : MemDisk → FileName → Type 0
+IsDurable disk file = (c : Files) → (mem_state disk).leaves c → file_of file c ≡ file_of file (files_held disk)
 
--- a sink: the bytes held, the numbers of the calls that fail, the calls made, the faults
-pub record Store : Type 0 where
-  pub held : List ℕ
-  pub fails : List ℕ
-  pub calls : ℕ
-  pub faults : ℕ
+-- no call was made, and none is to fail
+pub record IsFresh (disk : MemDisk) : Type 0 where
+  pub calls : disk.calls.items ≡ []
+  pub plan : plan_of disk ≡ record { made = 0; fail = None; stop = None; stopped = None }
 
--- A write fails where its number is named, or its growth is refused. Else it adds the whole piece.
-pub record WritesStore (old new : Store) (result : Result ℕ Failed) (bytes : List ℕ) : Type 0 where
-  pub called : new.calls ≡ next old.calls
-  pub kept : new.fails ≡ old.fails
-  pub named : OnTrue (is_listed new.calls old.fails) (IsErr result)
-  pub failed : OnErr result (new.faults ≡ next old.faults)
-  pub whole : IfOk result (λ n. (n ≡ length bytes) × (new.faults ≡ old.faults))
+-- the files, and what is pending in them, are as they were
+pub record IsUntouched (old new : MemDisk) : Type 0 where
+  pub files : files_held new ≡ files_held old
+  pub calls : new.calls.items ≡ old.calls.items
+
+-- what the disk has of a file after a crash, where it has stopped, and else what a read gives
+abbrev pub after_crash : MemDisk → FileName → List ℕ
+after_crash disk file = revived (plan_of disk).stopped file (file_of file (files_held disk)) (reverse disk.calls.items)
+
+-- A call keeps to the plan: it is counted, and where it is to fail it has no effect. It answers Ok only where it goes
+-- and makes the files these; where it stops the disk, or there was no memory, it has made them these or has no effect.
+pub record Obeys {T : Type 0} (old new : MemDisk) (files : Files) (result : Result T Failed) : Type 0 where
+  pub plan : plan_of new ≡ plan_after (plan_of old)
+  pub fails : next_fate (plan_of old) ≡ Fails → IsUntouched old new
+  pub effect : (files_held new ≡ files) ⊎ IsUntouched old new
+  pub goes : OnOk result (next_fate (plan_of old) ≡ Goes)

@@ -1,18 +1,33 @@
-//! What the program is handed from outside: bytes to read, places to write to.
+//! What the program is handed from outside: bytes to read, places to write to, a disk of six files.
 //!
-//! Each kind is a trait whose ghost members say what an object has left or holds, where it tells it, and how often it
-//! has failed. `source` and `sink` are the streams, `memory_source` and `memory_sink` the ones in memory, which tell
-//! all, and `standard` those over the standard streams, which tell nothing.
+//! Each kind is a trait whose ghost members say what an object tells of itself and how often it has failed. `source` and
+//! `sink` are the streams, `memory_source` and `memory_sink` the ones in memory, which tell all, and `standard` those over
+//! the standard streams, which tell nothing. `disk` is the disk, whose calls are told in `specs/Disk.antt`; `memory_disk`
+//! is the one in memory, on which a crash may fall inside any write, and `folder` the one over the files of a folder,
+//! which tells nothing.
 #![tactic(auto)]
 
+mod contents;
+mod disk;
 pub mod failed;
+mod folder;
+mod memory_calls;
+mod memory_disk;
+mod memory_picks;
+mod memory_plan;
 pub mod memory_sink;
 pub mod memory_source;
 pub mod sink;
 pub mod source;
 pub mod standard;
+#[cfg(test)]
+mod tests;
 
+pub use disk::{Disk, FileName};
 pub use failed::Failed;
+pub use folder::DirDisk;
+pub use memory_disk::MemDisk;
+pub use memory_plan::{Pick, Stop};
 pub use memory_sink::MemSink;
 pub use memory_source::MemSource;
 pub use sink::{Sink, write_all};

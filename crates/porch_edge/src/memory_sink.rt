@@ -3,14 +3,13 @@
 ghost use Rattle.std.specs.Prelude.{◌≡◌, ◌≤◌, ◌<◌, [], length, IfOk, Some};
 ghost use Rattle.porch_edge.specs.Causes.{HasCause};
 ghost use Rattle.porch_edge.specs.Streams.{Gains};
-ghost use Rattle.porch_edge.specs.Memory.{Store, WritesStore};
-
-use std::alloc::Global;
-use std::marker::Model;
+ghost use Rattle.porch_edge.specs.MemoryStreams.{Store, WritesStore};
 
 use crate::failed::Failed;
 use crate::memory_source::fails_at;
 use crate::sink::Sink;
+use std::alloc::Global;
+use std::marker::Model;
 
 /// Bytes that grow in memory. Of its calls, numbered from 1, the ones that were named fail, and so does one whose growth
 /// is refused.
@@ -23,7 +22,7 @@ pub struct MemSink {
 }
 
 impl Model for MemSink {
-    ghost use Rattle.porch_edge.specs.Memory.{Store};
+    ghost use Rattle.porch_edge.specs.MemoryStreams.{Store};
 
     ghost Value = { Store };
 

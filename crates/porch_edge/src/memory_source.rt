@@ -4,12 +4,11 @@ ghost use Rattle.std.specs.Prelude.{◌≡◌, ◌≤◌, min, length, take, IfO
 ghost use Rattle.std.specs.List.{list_any};
 ghost use Rattle.porch_edge.specs.Causes.{HasCause};
 ghost use Rattle.porch_edge.specs.Streams.{Takes};
-ghost use Rattle.porch_edge.specs.Memory.{Feed, ReadsFeed, is_listed};
-
-use std::marker::Model;
+ghost use Rattle.porch_edge.specs.MemoryStreams.{Feed, ReadsFeed, is_listed};
 
 use crate::failed::Failed;
 use crate::source::Source;
+use std::marker::Model;
 
 /// Bytes in memory. Of its calls, numbered from 1, the ones that were named fail.
 #[derive(Drop)]
@@ -23,7 +22,7 @@ pub struct MemSource {
 
 impl Model for MemSource {
     ghost use Rattle.std.specs.Prelude.{drop, ◌≤◌, length};
-    ghost use Rattle.porch_edge.specs.Memory.{Feed};
+    ghost use Rattle.porch_edge.specs.MemoryStreams.{Feed};
 
     ghost Value = { Feed };
 

@@ -2,12 +2,11 @@
 
 ghost use Rattle.std.specs.Prelude.{None};
 
-use std::io;
-use std::io::{Read, Write};
-
 use crate::failed::Failed;
 use crate::sink::Sink;
 use crate::source::Source;
+use std::io;
+use std::io::{Read, Write};
 
 /// A source over a reader, such as the standard input. It counts its faults up to the greatest `u64`.
 #[derive(Drop)]

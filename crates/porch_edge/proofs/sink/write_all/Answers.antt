@@ -10,5 +10,5 @@ pub loop-written-preserved : goal.loop-written-preserved
 loop-written-preserved g c = record {
   within = omega (arith, length-take {A = ℕ}, length-drop {A = ℕ}, c.in-Ok.ensures.bound);
   grew = more _ _ _ c.args.bytes.now c.loop-written.written c.in-Ok.count c.loop-written.invariant.grew c.in-Ok.ensures.gained;
-  later = omega (arith, c.in-Ok.ensures.cause.later)
+  later = omega (arith, c.in-Ok.ensures.cause.later);
 }

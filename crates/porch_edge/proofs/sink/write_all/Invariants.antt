@@ -6,7 +6,7 @@ abbrev pub invariant-loop-written : goal.invariant-loop-written
 invariant-loop-written g l = record {
   within : l.written ≤ length l.bytes;
   grew : Grew (g.O.Sink.held l.fn.out) (g.O.Sink.held l.out) (take l.written l.bytes);
-  later : g.O.Sink.faults l.fn.out ≤ g.O.Sink.faults l.out
+  later : g.O.Sink.faults l.fn.out ≤ g.O.Sink.faults l.out;
 }
 
 abbrev pub decreases-loop-written : goal.decreases-loop-written

@@ -1,0 +1,8 @@
+use Rattle.std.proofs.Common.{[], ◌∷◌, ◌++◌, List, ◌∙◌, ap}
+use Rattle.porch_edge.specs.declared.memory_calls.Call.{Call}
+use Rattle.porch_edge.proofs.memory_calls.exchange.Goals as goal
+
+pub returns-clause-ok : goal.returns-clause-ok
+returns-clause-ok c =
+    let call : Call = record { file = c.args.file; change = c.args.change; before = c.replace-before.result } in
+    record { before = c.replace-before.result; had = c.replace-before.ensures.before; has = c.replace-before.ensures.now; kept = c.append.ensures ∙ ap (λ (l : List Call). l ++ call ∷ []) c.reserve.ensures.items }

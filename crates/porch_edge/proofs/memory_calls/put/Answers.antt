@@ -1,0 +1,9 @@
+use Rattle.std.proofs.Common.{◌≡◌, refl, rules}
+use Rattle.std.proofs.lemmas.Result.{on_ok_weaker}
+use Rattle.porch_edge.proofs.Logs.{relogged}
+use Rattle.porch_edge.proofs.memory_calls.put.Goals as goal
+
+pub returns-clause-ok : goal.returns-clause-ok
+returns-clause-ok c =
+    let bytes : c.in_ok-next.next.items ≡ c.args.bytes.now = search rules in
+    on_ok_weaker c.exchange.result (relogged bytes refl) c.exchange.ensures.ok

@@ -1,0 +1,95 @@
+-- The calls that a disk in memory keeps, and what a crash may leave after them.
+use Rattle.std.specs.Prelude.{◌≡◌, ◌==◌, ℕ, ◌^◌, ◌≤◌, ◌⊎◌, ◌++◌, List, [], ◌∷◌, length, if◌then◌else◌, Vec}
+use Rattle.std.specs.declared.alloc.Global.{Global}
+use Rattle.std.specs.declared.option.Option.TheVariants.{Some}
+use Rattle.porch_edge.specs.declared.disk.FileName.{FileName}
+use Rattle.porch_edge.specs.declared.disk.FileName.TheVariants.{Program, Output, CkA, CkB, Layouts, Input}
+use Rattle.porch_edge.specs.declared.memory_calls.Change.{Change}
+use Rattle.porch_edge.specs.declared.memory_calls.Change.TheVariants.{Nothing, Synced, Write, Cut, Put}
+use Rattle.porch_edge.specs.declared.memory_calls.Call.{Call}
+use Rattle.porch_edge.specs.Files.{Files, file_of, with_file, IsWithin, Torn, Shortened}
+use Rattle.porch_edge.specs.Disk.{DiskState}
+
+-- one call more is kept, which has left its file so
+pub record Logged (fs gs : Files) (old new : List Call) (file : FileName) (bytes : List ℕ) (change : Change) : Type 0 where
+  pub before : Vec ℕ Global
+  pub had : before.items ≡ file_of file fs
+  pub has : gs ≡ with_file file fs bytes
+  pub kept : new ≡ old ++ record { file = file; change = change; before = before } ∷ []
+
+-- one call more is kept, which has changed no byte
+pub record Noted (old new : List Call) (file : FileName) (change : Change) : Type 0 where
+  pub before : Vec ℕ Global
+  pub kept : new ≡ old ++ record { file = file; change = change; before = before } ∷ []
+
+-- a number for each file
+abbrev pub index_of : FileName → ℕ
+index_of Program = 0
+index_of Output = 1
+index_of CkA = 2
+index_of CkB = 3
+index_of Layouts = 4
+index_of Input = 5
+
+-- what a call does to a file: nothing where it is another one
+abbrev pub change_on : FileName → Call → Change
+change_on file call = if index_of file == index_of call.file then call.change else Nothing
+
+-- the bytes from before a call, which keeps these where it has changed them
+abbrev pub bytes_before : Change → List ℕ → List ℕ → List ℕ
+bytes_before Nothing kept now = now
+bytes_before Synced kept now = now
+bytes_before (Write from to) kept now = kept
+bytes_before (Cut len) kept now = kept
+bytes_before Put kept now = kept
+
+-- what a call makes of what a crash may leave of its file
+abbrev pub LeavesBy : Change → List ℕ → (List ℕ → Type 0) → List ℕ → Type 0
+LeavesBy Nothing now earlier c = earlier c
+LeavesBy Synced now earlier c = c ≡ now
+LeavesBy (Write from to) now earlier c = (d : List ℕ) × earlier d × Torn from to d c
+LeavesBy (Cut len) now earlier c = (d : List ℕ) × earlier d × Shortened len d c
+LeavesBy Put now earlier c = c ≡ now
+
+-- what a crash may leave of a file that reads so after these calls, of which the last stands first
+abbrev pub FileLeaves : FileName → List ℕ → List Call → List ℕ → Type 0
+FileLeaves file now [] c = c ≡ now
+FileLeaves file now (call ∷ earlier) c =
+    LeavesBy (change_on file call) now (FileLeaves file (bytes_before (change_on file call) call.before.items now) earlier) c
+
+-- files are independent
+abbrev pub Leaves : Files → List Call → Files → Type 0
+Leaves fs calls c = (file : FileName) → FileLeaves file (file_of file fs) calls (file_of file c)
+
+-- the files from before a call
+abbrev pub files_before : Call → Files → Files
+files_before call fs = with_file call.file fs (bytes_before call.change call.before.items (file_of call.file fs))
+
+-- what a crash may have left since the moment when so many calls were made
+abbrev pub LeftSince : Files → List Call → ℕ → Files → Type 0
+LeftSince fs [] t c = Leaves fs [] c
+LeftSince fs (call ∷ earlier) t c =
+    Leaves fs (call ∷ earlier) c ⊎ ((t ≤ length earlier) × LeftSince (files_before call fs) earlier t c)
+
+-- a disk with these files after these calls, of which the last stands first
+abbrev pub memory_state : Files → List Call → DiskState
+memory_state fs calls = record { files = Some fs; leaves = Leaves fs calls; moment = λ _. length calls; since = λ t. LeftSince fs calls (t 0) }
+
+-- a call has done what it says to bytes that were so before it
+abbrev pub Did : Change → List ℕ → List ℕ → Type 0
+Did Nothing before now = Unit {0}
+Did Synced before now = Unit {0}
+Did (Write from to) before now = Torn from to before now
+Did (Cut len) before now = Shortened len before now × (length before ≤ 2 ^ 62)
+Did Put before now = Unit {0}
+
+-- each of these calls has done what it says to the file
+abbrev pub FileKept : FileName → List ℕ → List Call → Type 0
+FileKept file now [] = Unit {0}
+FileKept file now (call ∷ earlier) =
+    Did (change_on file call) call.before.items now × FileKept file (bytes_before (change_on file call) call.before.items now) earlier
+
+-- the files read as their calls have made them, and none is too long
+pub record Kept (fs : Files) (calls : List Call) : Type 0 where
+  pub within : IsWithin fs
+  pub each : (file : FileName) → FileKept file (file_of file fs) calls

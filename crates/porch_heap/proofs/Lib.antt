@@ -1,0 +1,6 @@
+pub mod Lists
+pub mod Places
+pub mod Edits
+pub mod Runs
+pub mod Hints
+pub mod Keeps

@@ -1,0 +1,3 @@
+pub mod Layouts
+pub mod Words
+pub mod Files

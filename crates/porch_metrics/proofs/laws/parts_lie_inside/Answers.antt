@@ -1,0 +1,5 @@
+use Rattle.porch_metrics.proofs.Rising.{part_inside}
+use Rattle.porch_metrics.proofs.laws.parts_lie_inside.Goals as goal
+
+pub returns : goal.returns
+returns c = λ l types ty leaf part is are at. part_inside l types ty leaf part is are.formed at

@@ -1,0 +1,58 @@
+-- What is kept of each type, and that it is right.
+use Rattle.std.specs.Prelude.{◌≡◌, ℕ, ◌<◌, ◌≤◌, List, [], length, slice_get, Option, Some, None, map}
+use Rattle.porch_types.specs.declared.shapes.Ty.{Ty}
+use Rattle.porch_types.specs.declared.shapes.Ty.TheVariants.{Whole, Pointer, Array, Struct}
+use Rattle.porch_types.specs.Leaves.{IsTypes}
+use Rattle.porch_layout.specs.declared.layout.Layout.{Layout}
+use Rattle.porch_layout.specs.Layouts.{IsLayout}
+use Rattle.porch_metrics.specs.declared.table.Measured.{Measured}
+use Rattle.porch_metrics.specs.declared.table.Table.{Table}
+use Rattle.porch_metrics.specs.Extents.{Extent, extents_of, extent_of, member_places, ucf_layout}
+
+-- the extent that was measured
+abbrev pub extent : Measured → Extent
+extent m = record { size = m.size; align = m.align }
+
+-- where each member of a type begins
+abbrev pub places_of : (ℕ → Extent) → Ty → List ℕ
+places_of extents (Struct members) = member_places extents 0 members
+places_of extents (Whole kind) = []
+places_of extents (Pointer to) = []
+places_of extents (Array of count) = []
+
+-- small enough that the sums of a struct fit
+pub record IsSmall (e : Extent) : Type 0 where
+  pub size : e.size ≤ 8_388_608
+  pub some : 0 < e.align
+  pub align : e.align ≤ 8
+
+-- these are the measures of the first types
+pub record AreMeasured (under : Layout) (types : List Ty) (measured : List Measured) : Type 0 where
+  pub extents : map extent measured ≡ extents_of under types
+  pub placed : (ty : ℕ) (this : Ty) (m : Measured) → slice_get types ty ≡ Some this → slice_get measured ty ≡ Some m
+      → m.places.items ≡ places_of (extent_of under types) this
+
+-- a table of the measures of these types
+pub record IsTable (types : List Ty) (table : Table) : Type 0 where
+  pub formed : IsTypes types
+  pub layout : IsLayout table.layout
+  pub measured : AreMeasured table.layout types table.measured.items
+
+-- the types and the layout that places are counted under
+pub record Measures : Type 0 where
+  pub types : List Ty
+  pub layout : Layout
+
+-- a table under the layout, and one packed as in a UCF file
+pub record AreTables (types : List Ty) (native packed : Table) : Type 0 where
+  pub native_table : IsTable types native
+  pub packed_table : IsTable types packed
+  pub ucf : packed.layout ≡ ucf_layout
+
+-- a type that is a struct with a member of this number
+abbrev pub IsMember : Option Ty → ℕ → Type 0
+IsMember (Some (Struct members)) index = index < length members
+IsMember (Some (Whole kind)) index = ⊥
+IsMember (Some (Pointer to)) index = ⊥
+IsMember (Some (Array of count)) index = ⊥
+IsMember None index = ⊥

@@ -1,0 +1,72 @@
+ghost use Rattle.std.specs.Prelude.{◌≡◌, ◌<◌, ◌≤◌, ◌^◌, ℕ, length, slice_get, Some};
+ghost use Rattle.porch_types.specs.Leaves.{leaves_of};
+ghost use Rattle.porch_types.specs.Rows.{part_at};
+ghost use Rattle.porch_metrics.specs.Extents.{extent_of};
+ghost use Rattle.porch_metrics.specs.Places.{part_place, place_of};
+ghost use Rattle.porch_metrics.specs.Tables.{IsTable, IsMember};
+
+use crate::table::{Measured, Table, align_in, size_in};
+use porch_types::{Part, Ty, Types};
+
+pub(crate) fn size_at(types: &Types, table: &Table, ty: u32) -> u64
+    requires table { IsTable types.now table.now }
+    requires known { ty < length types.now }
+    ensures { result ≡ (extent_of table.now.layout types.now ty).size }
+{
+    size_in(&table.measured, ty)
+}
+
+pub(crate) fn align_at(types: &Types, table: &Table, ty: u32) -> u64
+    requires table { IsTable types.now table.now }
+    requires known { ty < length types.now }
+    ensures { result ≡ (extent_of table.now.layout types.now ty).align }
+{
+    align_in(&table.measured, ty)
+}
+
+/// Where member number `index` of a struct begins.
+fn member_start(types: &Types, table: &Table, ty: u32, index: u64) -> u64
+    requires table { IsTable types.now table.now }
+    requires known { ty < length types.now }
+    requires member { IsMember (slice_get types.now ty) index }
+    ensures { result ≡ part_place (extent_of table.now.layout types.now) (slice_get types.now ty) index }
+{
+    let measured: &[Measured] = &table.measured;
+    let entry = &measured[ty as usize];
+    let places: &[u64] = &entry.places;
+    places[index as usize]
+}
+
+/// Where a part that holds a leaf begins in its whole.
+fn part_start(types: &Types, table: &Table, ty: u32, part: Part) -> u64
+    requires table { IsTable types.now table.now }
+    requires known { ty < length types.now }
+    requires found { (leaf : ℕ) × (leaf < leaves_of types.now ty) × (part_at types.now ty leaf ≡ Some part) }
+    ensures { result ≡ part_place (extent_of table.now.layout types.now) (slice_get types.now ty) part.index }
+{
+    match types.get(ty) {
+        Ty::Whole { kind: _ } => 0,
+        Ty::Pointer { to: _ } => 0,
+        Ty::Array { of, count: _ } => part.index * size_at(types, table, *of),
+        Ty::Struct { members: _ } => member_start(types, table, ty, part.index),
+    }
+}
+
+/// Goes down the parts that hold the leaf, from the element that holds it on.
+pub(crate) fn place_in(types: &Types, table: &Table, ty: u32, leaf: u64) -> u64
+    requires table { IsTable types.now table.now }
+    requires known { ty < length types.now }
+    requires near { leaf ≤ 2 ^ 52 }
+    ensures { result ≡ place_of table.now.layout types.now ty leaf }
+{
+    let leaves = types.leaves(ty);
+    let mut place = leaf / leaves * size_at(types, table, ty);
+    let mut inner = leaf % leaves;
+    let mut whole = ty;
+    'down: while let Some(part) = types.part_at(whole, inner) {
+        place += part_start(types, table, whole, part);
+        inner -= part.first;
+        whole = part.ty;
+    }
+    place
+}

@@ -1,0 +1,17 @@
+//! The types of a program: a list of integers, pointers, arrays and structs, each made of earlier
+//! ones, the leaves of each, and the rows in which their subobjects stand. Start at `Types`.
+#![tactic(auto)]
+
+mod checks;
+mod entries;
+mod parts;
+mod search;
+mod shapes;
+mod types;
+
+pub use parts::{Part, Row};
+pub use shapes::{Kind, Members, Ty};
+pub use types::{TypeFault, Types, subobjects_are_one};
+
+#[cfg(test)]
+mod tests;
