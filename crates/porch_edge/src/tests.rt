@@ -1,6 +1,7 @@
 //! What no clause says of the disk: that calls succeed, and what a stop leaves.
 
 use crate::{DirDisk, Disk, Failed, FileName, MemDisk, Pick, Stop};
+use std::fs;
 use std::test::Fail;
 
 // Six calls on one file, of which some leave places pending.
@@ -80,5 +81,6 @@ fn a_folder_keeps_its_files(rt: HostRuntime) -> Result<(), Fail> {
     assert_eq!(rt; disk.read(FileName::CkA, 1, &mut buf), Ok(3));
     assert_eq!(rt; buf.as_slice(), b"\0ab.....".as_slice());
     assert_eq!(rt; disk.write_at(FileName::CkA, 1 << 62, b"!"), Err(Failed));
+    fs::remove_file(&rt, "ck.a")?;
     Ok(())
 }
