@@ -11,7 +11,7 @@ use Rattle.porch_syntax.specs.declared.refusal.SourceFault.{SourceFault}
 use Rattle.porch_syntax.specs.declared.refusal.SourceFault.TheVariants.{Refused, NoMemory}
 use Rattle.porch_syntax.specs.Tree.{Program}
 use Rattle.porch_syntax.specs.Language.{IsSource, IsRefusal}
-use Rattle.porch_meaning.specs.declared.act.Act.{Act}
+use Rattle.porch_values.specs.declared.acts.Act.{Act}
 use Rattle.porch_meaning.specs.Mean.{Meaning, Ending, Ended, Met, Paused}
 use Rattle.porch_machine.specs.declared.early.EarlyEnd.{EarlyEnd}
 use Rattle.porch_machine.specs.declared.early.EarlyEnd.TheVariants as end

@@ -1,5 +1,7 @@
 -- What each answer of the top call says.
-use Rattle.std.specs.Prelude.{ℕ, ◌≡◌, ◌≤◌, ◌<◌, ◌^◌, ◌⊎◌, List, [], ◌++◌, length, true, false, ⊤, Result, IsErrOf}
+use Rattle.std.specs.Prelude.{ℕ, ◌≡◌, ◌≤◌, ◌<◌, ◌^◌, ◌⊎◌, List, [], ◌++◌, length, true, false, ⊤, Result, IsErrOf, refl}
+use Rattle.std.specs.Prelude.{map, String, string_bytes}
+use Rattle.std.specs.Global.{Global}
 use Rattle.std.specs.declared.option.Option.{Option}
 use Rattle.std.specs.declared.option.Option.TheVariants.{Some, None}
 use Rattle.porch_edge.specs.Causes.{Rose}
@@ -9,8 +11,8 @@ use Rattle.porch_syntax.specs.declared.refusal.SourceFault.{SourceFault}
 use Rattle.porch_syntax.specs.declared.refusal.SourceFault.TheVariants.{Refused, NoMemory}
 use Rattle.porch_syntax.specs.Tree.{Program}
 use Rattle.porch_syntax.specs.Language.{IsSource, IsRefusal}
-use Rattle.porch_meaning.specs.Types.{kinds}
-use Rattle.porch_meaning.specs.Integers.{Widths}
+use Rattle.porch_types.specs.Leaves.{kind_types}
+use Rattle.porch_values.specs.declared.widths.Widths.{Widths}
 use Rattle.porch_meaning.specs.Mean.{mean, Meaning, Ending, Ended, Met, Paused}
 use Rattle.porch_cli.specs.declared.reading.ReadStop.{ReadStop}
 use Rattle.porch_cli.specs.declared.reading.ReadStop.TheVariants as stop
@@ -23,11 +25,11 @@ use Rattle.porch_cli.specs.Lines.{line_of}
 
 -- the only width of long is 64 bits
 abbrev pub wide_only : Widths
-wide_only = record { narrow = false; wide = true }
+wide_only = record { narrow = false; wide = true; some = refl }
 
 -- the meaning of a program that takes no input
 abbrev pub meaning_in : Program → ℕ → Meaning
-meaning_in p turns = mean kinds p wide_only turns []
+meaning_in p turns = mean kind_types p wide_only turns []
 
 -- This much of the source was read: to its end, or past 1,048,576 bytes.
 abbrev pub HasRead : Option (List ℕ) → Option (List ℕ) → List ℕ → Type 0
@@ -83,6 +85,24 @@ pub record Changes : Type 0 where
   pub held' : Option (List ℕ)
   pub write_faults : ℕ
   pub write_faults' : ℕ
+
+-- the same, from what a source and a sink tell, and how often they failed
+abbrev pub changes : {A B : Type 0} → (A → Option (List ℕ)) → (A → ℕ) → A → A → (B → Option (List ℕ)) → (B → ℕ) → B → B → Changes
+changes left read_faults source source' held write_faults out out' =
+    record {
+      left = left source;
+      left' = left source';
+      read_faults = read_faults source;
+      read_faults' = read_faults source';
+      held = held out;
+      held' = held out';
+      write_faults = write_faults out;
+      write_faults' = write_faults out';
+    }
+
+-- the bytes of each word
+abbrev pub texts : List (String Global) → List (List ℕ)
+texts = map (λ word. string_bytes word)
 
 -- The reason of each answer before its closing line is written, for the text that was read.
 abbrev pub HasReason : List (List ℕ) → Changes → List ℕ → Status → Type 0

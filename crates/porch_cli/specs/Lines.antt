@@ -4,8 +4,8 @@ use Rattle.std.specs.Fmt.{decimal, signed_decimal}
 use Rattle.porch_syntax.specs.declared.refusal.Refusal.{Refusal}
 use Rattle.porch_syntax.specs.declared.refusal.Rule.{Rule}
 use Rattle.porch_syntax.specs.declared.refusal.Rule.TheVariants as rule
-use Rattle.porch_meaning.specs.declared.act.Act.{Act}
-use Rattle.porch_meaning.specs.declared.act.Act.TheVariants as act
+use Rattle.porch_values.specs.declared.acts.Act.{Act}
+use Rattle.porch_values.specs.declared.acts.Act.TheVariants as act
 use Rattle.porch_cli.specs.declared.status.Status.{Status}
 use Rattle.porch_cli.specs.declared.status.Status.TheVariants as status
 

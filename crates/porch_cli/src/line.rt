@@ -8,8 +8,8 @@ ghost use Rattle.porch_cli.specs.Lines.{rule_name, act_name, line_at, column_at,
 use crate::status::Status;
 use arrayvec::ArrayString;
 use itoa::Buffer;
-use porch_meaning::Act;
 use porch_syntax::{Refusal, Rule};
+use porch_values::Act;
 
 /// A line that is put together without memory. The longest has 67 bytes.
 type Line = ArrayString<128>;

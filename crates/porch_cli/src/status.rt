@@ -3,8 +3,8 @@
 ghost use Rattle.std.specs.Prelude.{◌≡◌};
 ghost use Rattle.porch_cli.specs.Lines.{number_of};
 
-use porch_meaning::Act;
 use porch_syntax::Refusal;
+use porch_values::Act;
 
 /// How a command ended.
 #[derive(Clone, Copy, Debug, PartialEq, Eq)]

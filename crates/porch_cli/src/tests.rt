@@ -4,8 +4,8 @@
 use crate::status::{Status, number_of_status};
 use crate::top::porch;
 use porch_edge::{Failed, MemSink, MemSource, Sink, Source};
-use porch_meaning::Act;
 use porch_syntax::{Refusal, Rule};
+use porch_values::Act;
 use std::alloc::{AllocError, Global};
 use std::test::Fail;
 

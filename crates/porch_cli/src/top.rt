@@ -1,12 +1,12 @@
 //! The top call.
 
-ghost use Rattle.std.specs.Prelude.{◌≡◌, ◌≤◌, ◌<◌, ◌+◌, ◌^◌, ◌⊎◌, ℕ, ℤ, map, length, string_bytes, []};
+ghost use Rattle.std.specs.Prelude.{◌≡◌, ◌≤◌, ◌<◌, ◌+◌, ◌^◌, ◌⊎◌, ℕ, ℤ, length, []};
 ghost use Rattle.porch_edge.specs.Causes.{Rose};
 ghost use Rattle.porch_syntax.specs.declared.refusal.Refusal.{Refusal};
-ghost use Rattle.porch_meaning.specs.declared.act.Act.{Act};
+ghost use Rattle.porch_values.specs.declared.acts.Act.{Act};
 ghost use Rattle.porch_meaning.specs.Mean.{Ended, Met, Paused};
 ghost use Rattle.porch_cli.specs.Lines.{line_of};
-ghost use Rattle.porch_cli.specs.Answers.{HasReason, RunsText, status_of, refused_for, stopped_for, Closes, HasAnswered, RanSource, IsUsage, IsRefused, IsWriteFault, Unordered, Refuses, Completes, HasLine, HasLinePrefix};
+ghost use Rattle.porch_cli.specs.Answers.{changes, texts, HasReason, RunsText, status_of, refused_for, stopped_for, Closes, HasAnswered, RanSource, IsUsage, IsRefused, IsWriteFault, Unordered, Refuses, Completes, HasLine, HasLinePrefix};
 
 use crate::line::line_of_status;
 use crate::reading::{ReadStop, read_source};
@@ -70,7 +70,8 @@ fn work<S: Source, O: Sink>(
     text: &mut Vec<u8>,
 ) -> Status
     requires { text.old.items ≡ [] }
-    ensures reason { HasReason (map (λ word. string_bytes word) words.now) (record { left = S.left source.old; left' = S.left source.new; read_faults = S.faults source.old; read_faults' = S.faults source.new; held = O.held out.old; held' = O.held out.new; write_faults = O.faults out.old; write_faults' = O.faults out.new }) text.new.items result }
+    ensures reason { HasReason (texts words.now)
+        (changes S.left S.faults source.old source.new O.held O.faults out.old out.new) text.new.items result }
     ensures short { length text.new.items ≤ 2 ^ 20 + 4096 }
 {
     let Some(turns) = read_words(words) else {
@@ -104,28 +105,47 @@ pub fn porch<S: Source, O: Sink, E: Sink>(
     out: &mut O,
     err: &mut E,
 ) -> Status
-    ensures answered { HasAnswered (map (λ word. string_bytes word) words.now) (record { left = S.left source.old; left' = S.left source.new; read_faults = S.faults source.old; read_faults' = S.faults source.new; held = O.held out.old; held' = O.held out.new; write_faults = O.faults out.old; write_faults' = O.faults out.new }) (E.held err.old) (E.held err.new) (E.faults err.old) (E.faults err.new) result }
+    ensures answered { HasAnswered (texts words.now)
+        (changes S.left S.faults source.old source.new O.held O.faults out.old out.new)
+        (E.held err.old) (E.held err.new) (E.faults err.old) (E.faults err.new) result }
 
     // The run of a program: its end, its turns and its whole output are those of its meaning.
-    ensures done { (value : ℤ) (turns : ℕ) → result ≡ Status.Done value turns → RanSource (map (λ word. string_bytes word) words.now) (record { left = S.left source.old; left' = S.left source.new; read_faults = S.faults source.old; read_faults' = S.faults source.new; held = O.held out.old; held' = O.held out.new; write_faults = O.faults out.old; write_faults' = O.faults out.new }) (Ended value) turns }
-    ensures trap { (act : Act) (turns : ℕ) → result ≡ Status.Trap act turns → RanSource (map (λ word. string_bytes word) words.now) (record { left = S.left source.old; left' = S.left source.new; read_faults = S.faults source.old; read_faults' = S.faults source.new; held = O.held out.old; held' = O.held out.new; write_faults = O.faults out.old; write_faults' = O.faults out.new }) (Met act) turns }
-    ensures paused { (turns : ℕ) → result ≡ Status.Paused turns → RanSource (map (λ word. string_bytes word) words.now) (record { left = S.left source.old; left' = S.left source.new; read_faults = S.faults source.old; read_faults' = S.faults source.new; held = O.held out.old; held' = O.held out.new; write_faults = O.faults out.old; write_faults' = O.faults out.new }) Paused turns }
+    ensures done { (value : ℤ) (turns : ℕ) → result ≡ Status.Done value turns → RanSource (texts words.now)
+        (changes S.left S.faults source.old source.new O.held O.faults out.old out.new) (Ended value) turns }
+    ensures trap { (act : Act) (turns : ℕ) → result ≡ Status.Trap act turns → RanSource (texts words.now)
+        (changes S.left S.faults source.old source.new O.held O.faults out.old out.new) (Met act) turns }
+    ensures paused { (turns : ℕ) → result ≡ Status.Paused turns → RanSource (texts words.now)
+        (changes S.left S.faults source.old source.new O.held O.faults out.old out.new) Paused turns }
 
     // The refusals, and the faults.
-    ensures usage { result ≡ Status.Usage → IsUsage (map (λ word. string_bytes word) words.now) (record { left = S.left source.old; left' = S.left source.new; read_faults = S.faults source.old; read_faults' = S.faults source.new; held = O.held out.old; held' = O.held out.new; write_faults = O.faults out.old; write_faults' = O.faults out.new }) }
-    ensures refused { (refusal : Refusal) → result ≡ Status.Refused refusal → IsRefused (map (λ word. string_bytes word) words.now) (record { left = S.left source.old; left' = S.left source.new; read_faults = S.faults source.old; read_faults' = S.faults source.new; held = O.held out.old; held' = O.held out.new; write_faults = O.faults out.old; write_faults' = O.faults out.new }) refusal }
+    ensures usage { result ≡ Status.Usage → IsUsage (texts words.now)
+        (changes S.left S.faults source.old source.new O.held O.faults out.old out.new) }
+    ensures refused { (refusal : Refusal) → result ≡ Status.Refused refusal → IsRefused (texts words.now)
+        (changes S.left S.faults source.old source.new O.held O.faults out.old out.new) refusal }
     ensures read_fault { result ≡ Status.ReadFault → Rose (S.faults source.old) (S.faults source.new) }
     ensures write_fault { result ≡ Status.WriteFault → Rose (O.faults out.old) (O.faults out.new) ⊎ Rose (E.faults err.old) (E.faults err.new) }
-    ensures written { result ≡ Status.WriteFault → IsWriteFault (map (λ word. string_bytes word) words.now) (record { left = S.left source.old; left' = S.left source.new; read_faults = S.faults source.old; read_faults' = S.faults source.new; held = O.held out.old; held' = O.held out.new; write_faults = O.faults out.old; write_faults' = O.faults out.new }) }
+    ensures written { result ≡ Status.WriteFault → IsWriteFault (texts words.now)
+        (changes S.left S.faults source.old source.new O.held O.faults out.old out.new) }
 
     // The other way round: no answer is given up, unless memory is refused.
-    ensures unordered { Unordered (map (λ word. string_bytes word) words.now) (E.faults err.old) (E.faults err.new) result }
-    ensures refuses { Refuses (map (λ word. string_bytes word) words.now) (record { left = S.left source.old; left' = S.left source.new; read_faults = S.faults source.old; read_faults' = S.faults source.new; held = O.held out.old; held' = O.held out.new; write_faults = O.faults out.old; write_faults' = O.faults out.new }) (E.faults err.old) (E.faults err.new) result }
-    ensures completes { Completes (map (λ word. string_bytes word) words.now) (record { left = S.left source.old; left' = S.left source.new; read_faults = S.faults source.old; read_faults' = S.faults source.new; held = O.held out.old; held' = O.held out.new; write_faults = O.faults out.old; write_faults' = O.faults out.new }) (E.faults err.old) (E.faults err.new) result }
+    ensures unordered { Unordered (texts words.now) (E.faults err.old) (E.faults err.new) result }
+    ensures refuses { Refuses (texts words.now)
+        (changes S.left S.faults source.old source.new O.held O.faults out.old out.new)
+        (E.faults err.old) (E.faults err.new) result }
+    ensures completes { Completes (texts words.now)
+        (changes S.left S.faults source.old source.new O.held O.faults out.old out.new)
+        (E.faults err.old) (E.faults err.new) result }
 
     // The closing line, and no more, unless it failed.
-    ensures closing { (Rose (E.faults err.old) (E.faults err.new) → ⊥) → HasLine (map (λ word. string_bytes word) words.now) (record { left = S.left source.old; left' = S.left source.new; read_faults = S.faults source.old; read_faults' = S.faults source.new; held = O.held out.old; held' = O.held out.new; write_faults = O.faults out.old; write_faults' = O.faults out.new }) (E.held err.old) (E.held err.new) result }
-    ensures closing_failed { HasLine (map (λ word. string_bytes word) words.now) (record { left = S.left source.old; left' = S.left source.new; read_faults = S.faults source.old; read_faults' = S.faults source.new; held = O.held out.old; held' = O.held out.new; write_faults = O.faults out.old; write_faults' = O.faults out.new }) (E.held err.old) (E.held err.new) result ⊎ (Rose (E.faults err.old) (E.faults err.new) × HasLinePrefix (map (λ word. string_bytes word) words.now) (record { left = S.left source.old; left' = S.left source.new; read_faults = S.faults source.old; read_faults' = S.faults source.new; held = O.held out.old; held' = O.held out.new; write_faults = O.faults out.old; write_faults' = O.faults out.new }) (E.held err.old) (E.held err.new)) }
+    ensures closing { (Rose (E.faults err.old) (E.faults err.new) → ⊥) → HasLine (texts words.now)
+        (changes S.left S.faults source.old source.new O.held O.faults out.old out.new)
+        (E.held err.old) (E.held err.new) result }
+    ensures closing_failed { HasLine (texts words.now)
+        (changes S.left S.faults source.old source.new O.held O.faults out.old out.new)
+        (E.held err.old) (E.held err.new) result
+        ⊎ (Rose (E.faults err.old) (E.faults err.new) × HasLinePrefix (texts words.now)
+        (changes S.left S.faults source.old source.new O.held O.faults out.old out.new)
+        (E.held err.old) (E.held err.new)) }
 {
     let mut text = Vec::new(alloc);
     let status = work(alloc, words, source, out, &mut text);

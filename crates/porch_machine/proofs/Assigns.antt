@@ -3,8 +3,8 @@ use Rattle.std.proofs.Common.{◌≡◌, ℕ, ℤ, List, refl, ap}
 use Rattle.std.proofs.Math.ListN.{set as list_set}
 use Rattle.std.specs.Prelude.{Ok, Err}
 use Rattle.porch_syntax.specs.Tree.{Node}
-use Rattle.porch_meaning.specs.declared.act.Act.{Act}
-use Rattle.porch_meaning.specs.Integers.{Widths}
+use Rattle.porch_values.specs.declared.acts.Act.{Act}
+use Rattle.porch_values.specs.declared.widths.Widths.{Widths}
 use Rattle.porch_meaning.specs.Store.{number, Mark, Object}
 use Rattle.porch_meaning.specs.Mean.{done, Undefined, set, with_objects}
 use Rattle.porch_machine.specs.declared.cell.Cell.{Cell}

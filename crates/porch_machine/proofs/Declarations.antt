@@ -1,18 +1,16 @@
 -- What declarations mean in memory, and variables without a value.
-use Rattle.std.proofs.Common.{◌≡◌, ◌<◌, ◌+◌, ℕ, suc, zero, List, [], ◌∷◌, ◌++◌, map, length, drop, get_or, replicate, refl, sym, ap, ◌∙◌, arith, drop-cons, add-one}
+use Rattle.std.proofs.Common.{◌≡◌, ◌<◌, ◌+◌, ℕ, suc, List, ◌∷◌, map, length, drop, get_or, refl, sym, ap, ◌∙◌, drop-cons, add-one}
 use Rattle.std.proofs.Math.ListN.{set as list_set}
 use Rattle.std.proofs.lemmas.List.{length-set}
 use Rattle.std.specs.Prelude.{Result, Ok, Err}
 use Rattle.std.specs.Option.{option_map}
-use Rattle.std.specs.List.{range_with_len}
 use Rattle.std.specs.declared.option.Option.{Option}
 use Rattle.std.specs.declared.option.Option.TheVariants.{Some, None}
 use Rattle.porch_syntax.specs.declared.tree.Expr.{Expr}
 use Rattle.porch_syntax.specs.Tree.{Node, node_of}
-use Rattle.porch_meaning.specs.declared.act.Act.{Act}
-use Rattle.porch_meaning.specs.Integers.{Widths}
-use Rattle.porch_meaning.specs.Store.{indeterminate, Mark, Object}
-use Rattle.porch_meaning.specs.Mean.{Outcome, Undefined, and_then, set, declare, with_objects}
+use Rattle.porch_values.specs.declared.acts.Act.{Act}
+use Rattle.porch_meaning.specs.Store.{indeterminate, Object}
+use Rattle.porch_meaning.specs.Mean.{and_then, set, declare, with_objects}
 use Rattle.porch_machine.specs.declared.cell.Cell.{Cell}
 use Rattle.porch_machine.specs.Cells.{state_of, frame_of, cell_value}
 use Rattle.porch_machine.specs.Early.{Assigned, DeclaredOne}

@@ -1,18 +1,16 @@
 -- From the block of main to the meaning of the program.
-use Rattle.std.proofs.Common.{◌≡◌, ◌<◌, ◌+◌, ◌*◌, ℕ, suc, zero, ℤ, pos, List, [], ◌∷◌, ◌++◌, map, length, replicate, Bool, true, false, refl, sym, ap, subst, ◌∙◌, arith, nat_eq}
+use Rattle.std.proofs.Common.{◌≡◌, ◌+◌, ℕ, List, [], ◌∷◌, ◌++◌, map, length, replicate, false, refl, sym, ap, subst, ◌∙◌, arith, nat_eq}
 use Rattle.std.proofs.lemmas.List.{append-nil, length-append, map_push, replicate_more}
 use Rattle.std.proofs.lemmas.Bool.Decides.{nat_tests}
 use Rattle.std.specs.Prelude.{Result, Ok, Err}
-use Rattle.std.specs.List.{range_with_len}
 use Rattle.std.specs.declared.option.Option.{Option}
-use Rattle.std.specs.declared.option.Option.TheVariants.{Some, None}
-use Rattle.porch_edge.specs.Streams.{Grew, GrewByPrefix}
+use Rattle.porch_edge.specs.Streams.{Grew}
 use Rattle.porch_syntax.specs.Tree.{Node, Program}
-use Rattle.porch_meaning.specs.declared.act.Act.{Act}
-use Rattle.porch_meaning.specs.Types.{Ty, kinds, int_type}
-use Rattle.porch_meaning.specs.Integers.{Widths}
-use Rattle.porch_meaning.specs.Store.{Value, number, null, pointer, indeterminate, Root, Object, State, Mark, start, fresh}
-use Rattle.porch_meaning.specs.Mean.{Outcome, Went, Gave, Undefined, Stopped, turn, entered, acts, back, meaning_of, mean, call_main, Meaning}
+use Rattle.porch_values.specs.declared.acts.Act.{Act}
+use Rattle.porch_types.specs.Leaves.{kind_types}
+use Rattle.porch_values.specs.declared.widths.Widths.{Widths}
+use Rattle.porch_meaning.specs.Store.{Value, number, null, pointer, indeterminate, Object, fresh}
+use Rattle.porch_meaning.specs.Mean.{int_type, Outcome, Went, Gave, Undefined, Stopped, acts, back, meaning_of, mean, Meaning}
 use Rattle.porch_machine.specs.declared.cell.Cell.{Cell}
 use Rattle.porch_machine.specs.declared.run.Stop.{Stop}
 use Rattle.porch_machine.specs.declared.run.Stop.TheVariants as stop
@@ -23,7 +21,7 @@ use Rattle.porch_machine.proofs.Joins.{joined}
 use Rattle.porch_machine.proofs.Loops.{Grew-none, ran_here}
 
 -- the objects that a call of main begins with
-fresh_ints : (ds : List (Option Node)) → map (fresh kinds) (map (λ _. record { ty = int_type; count = 1 }) ds) ≡ replicate (length ds) (int_object indeterminate)
+fresh_ints : (ds : List (Option Node)) → map (fresh kind_types) (map (λ _. record { ty = int_type; count = 1 }) ds) ≡ replicate (length ds) (int_object indeterminate)
 fresh_ints [] = refl
 fresh_ints (d ∷ ds) = ap (λ (objects : List Object). int_object indeterminate ∷ objects) (fresh_ints ds)
 
@@ -39,7 +37,7 @@ output_said frame (Stopped s) = refl
 
 module _ (p : Program) (n : ℕ) (cells : List Cell) (e : AreEmpty (length p.declarations) cells) (some : n ≡ 0 → ⊥) (w : Widths) where
   -- the meaning is that of the block in memory
-  mean-block : mean kinds p w n [] ≡ meaning_of (back (frame_of cells) (block_of n (frame_of cells) p w (state_of cells [] [] 1)))
+  mean-block : mean kind_types p w n [] ≡ meaning_of (back (frame_of cells) (block_of n (frame_of cells) p w (state_of cells [] [] 1)))
   mean-block =
       let first : nat_eq 0 n ≡ false = grind (arith, nat_tests) in
       rw (first, fresh_ints p.declarations, ← e.empty, ← e.counted) refl
@@ -56,13 +54,13 @@ module _ (p : Program) (n : ℕ) (cells : List Cell) (e : AreEmpty (length p.dec
     said_by (Err stop.WriteFault) o more g b = record { more = more; missing = b.missing; split = output_said (frame_of cells) o ∙ b.split; grew = g }
 
     -- the run of the block is that of the meaning
-    pub has_run : (r : Result (Unit {0}) Stop) → Ran (λ w s. block_of n (frame_of cells) p w s) cells cells' 1 t h h' r → HasRun (mean kinds p w n []) h h' (end_of r t)
+    pub has_run : (r : Result (Unit {0}) Stop) → Ran (λ w s. block_of n (frame_of cells) p w s) cells cells' 1 t h h' r → HasRun (mean kind_types p w n []) h h' (end_of r t)
     has_run r ran =
         let P : Meaning → Type 0 = λ m. HasRun m h h' (end_of r t) in
         subst P (sym mean-block) (said_by r _ ran.more ran.grew (ran.comes w [] []))
 
 -- no turn at all
-pub has_no_turn : (p : Program) (w : Widths) (h : Option (List ℕ)) → HasRun (mean kinds p w 0 []) h h (end.Paused 0)
+pub has_no_turn : (p : Program) (w : Widths) (h : Option (List ℕ)) → HasRun (mean kind_types p w 0 []) h h (end.Paused 0)
 has_no_turn p w h = (refl, refl, Grew-none h)
 
 -- the block, where its declarations met an act
@@ -83,5 +81,5 @@ none_empty = record { counted = refl; empty = refl }
 pub one_more_empty : (k : ℕ) (cells : List Cell) (c : Cell) → AreEmpty k cells → cell_value c ≡ indeterminate → AreEmpty (k + 1) (cells ++ c ∷ [])
 one_more_empty k cells c e h = record {
   counted = let counted = e.counted in omega (arith, length-append cells (c ∷ []));
-  empty = map_push object_in cells c ∙ ap (λ (objects : List Object). objects ++ object_in c ∷ []) e.empty ∙ ap (λ (v : Value). replicate k (int_object indeterminate) ++ int_object v ∷ []) h ∙ replicate_more k (int_object indeterminate)
+  empty = map_push object_in cells c ∙ ap (λ (objects : List Object). objects ++ object_in c ∷ []) e.empty ∙ ap (λ (v : Value). replicate k (int_object indeterminate) ++ int_object v ∷ []) h ∙ replicate_more k (int_object indeterminate);
 }

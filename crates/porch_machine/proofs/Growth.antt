@@ -1,15 +1,17 @@
 -- Output only grows: whatever a part of a program comes to, its output begins with what was there before.
-use Rattle.std.proofs.Common.{◌≡◌, ◌+◌, ◌*ℤ◌, ℕ, zero, suc, ℤ, pos, List, [], ◌∷◌, ◌++◌, Bool, true, false, sym, ◌∙◌, ap, append_assoc, refl}
+use Rattle.std.proofs.Common.{◌≡◌, ◌+◌, ℕ, zero, suc, ℤ, pos, List, [], ◌++◌, Bool, true, false, sym, ◌∙◌, ap, append_assoc, refl}
 use Rattle.std.proofs.lemmas.List.{append-nil}
 use Rattle.std.specs.Prelude.{if◌then◌else◌, nat_eq, Result, Ok, Err}
 use Rattle.std.specs.Ordering.{int_eq}
-use Rattle.porch_syntax.specs.declared.tree.Sign.{Sign}
 use Rattle.porch_syntax.specs.Tree.{Node, variable, whole, character, nested, product, sum, less, Nodes, no_nodes, node, Terms, no_terms, term, Action, assign, repeat, putchar, give, Actions, no_actions, action}
-use Rattle.porch_meaning.specs.declared.act.Act.{Act}
-use Rattle.porch_meaning.specs.Types.{int}
-use Rattle.porch_meaning.specs.Integers.{Widths, result_in}
+use Rattle.porch_values.specs.declared.acts.Act.{Act}
+use Rattle.porch_types.specs.declared.shapes.Kind.TheVariants.{Int}
+use Rattle.porch_values.specs.declared.acts.Op.{Op}
+use Rattle.porch_values.specs.declared.acts.Op.TheVariants.{Mul}
+use Rattle.porch_values.specs.declared.widths.Widths.{Widths}
+use Rattle.porch_values.specs.Integers.{applied}
 use Rattle.porch_meaning.specs.Store.{Value, number, null, pointer, indeterminate, State, seen, leaf_at}
-use Rattle.porch_meaning.specs.Mean.{Outcome, Went, Gave, Undefined, Stopped, and_then, use_seen, used, read, result, operated, by_sign, truth, turn, object_of, eval, eval_factors, eval_terms, set, loop, act, acts}
+use Rattle.porch_meaning.specs.Mean.{Outcome, Went, Gave, Undefined, Stopped, and_then, use_seen, used, result, operated, op_of, object_of, eval, eval_factors, eval_terms, set, loop, act, acts}
 use Rattle.porch_machine.specs.Early.{Begins}
 
 here : (s : State) → s.output ≡ s.output ++ []
@@ -30,7 +32,7 @@ begins_stopped s = record { missing = []; split = here s }
 pub begins_then : (bytes : List ℕ) (o : Outcome) (go : Value → State → Outcome) → Begins bytes o → ((v : Value) (s : State) → Begins s.output (go v s)) → Begins bytes (and_then o go)
 begins_then bytes (Went v s) go b h = record {
   missing = b.missing ++ (h v s).missing;
-  split = (h v s).split ∙ ap (λ (x : List ℕ). x ++ (h v s).missing) b.split ∙ append_assoc bytes b.missing (h v s).missing
+  split = (h v s).split ∙ ap (λ (x : List ℕ). x ++ (h v s).missing) b.split ∙ append_assoc bytes b.missing (h v s).missing;
 }
 begins_then bytes (Gave v s) go b h = b
 begins_then bytes (Undefined a s) go b h = b
@@ -49,8 +51,8 @@ begins_result : (r : Result ℤ Act) (s : State) → Begins s.output (result r s
 begins_result (Ok z) s = begins_went _ s
 begins_result (Err a) s = begins_undefined _ s
 
-begins_operated : (w : Widths) (exact : ℤ → ℤ → ℤ) (a b : Value) (s : State) → Begins s.output (operated w exact a b s)
-begins_operated w exact a b s = begins_used a s _ (λ x. begins_used b s _ (λ y. begins_result (result_in w int (exact x y)) s))
+begins_operated : (w : Widths) (op : Op) (a b : Value) (s : State) → Begins s.output (operated w op a b s)
+begins_operated w op a b s = begins_used a s _ (λ x. begins_used b s _ (λ y. begins_result (applied op Int w x y) s))
 
 begins_if : (b : Bool) (bytes : List ℕ) (o p : Outcome) → Begins bytes o → Begins bytes p → Begins bytes (if b then o else p)
 begins_if true bytes o p h k = h
@@ -66,17 +68,17 @@ module _ (w : Widths) (n : ℕ) (frame : List ℕ) where
     begins_eval (product e es) s = begins_then s.output _ _ (begins_eval e s) (λ a s. begins_factors es a s)
     begins_eval (sum e ts) s = begins_then s.output _ _ (begins_eval e s) (λ a s. begins_terms ts a s)
     begins_eval (less a b) s =
-        begins_then s.output _ _ (begins_eval a s) (λ x s. begins_then s.output _ _ (begins_eval b s) (λ y s. begins_operated w truth x y s))
+        begins_then s.output _ _ (begins_eval a s) (λ x s. begins_then s.output _ _ (begins_eval b s) (λ y s. begins_used x s _ (λ m. begins_used y s _ (λ n. begins_went _ s))))
 
     begins_factors : (es : Nodes) (a : Value) (s : State) → Begins s.output (eval_factors w n frame es a s)
     begins_factors no_nodes a s = begins_went _ s
     begins_factors (node e es) a s =
-        begins_then s.output _ _ (begins_eval e s) (λ b s. begins_then s.output _ _ (begins_operated w ◌*ℤ◌ a b s) (λ c s. begins_factors es c s))
+        begins_then s.output _ _ (begins_eval e s) (λ b s. begins_then s.output _ _ (begins_operated w Mul a b s) (λ c s. begins_factors es c s))
 
     begins_terms : (ts : Terms) (a : Value) (s : State) → Begins s.output (eval_terms w n frame ts a s)
     begins_terms no_terms a s = begins_went _ s
     begins_terms (term sign e ts) a s =
-        begins_then s.output _ _ (begins_eval e s) (λ b s. begins_then s.output _ _ (begins_operated w (by_sign sign) a b s) (λ c s. begins_terms ts c s))
+        begins_then s.output _ _ (begins_eval e s) (λ b s. begins_then s.output _ _ (begins_operated w (op_of sign) a b s) (λ c s. begins_terms ts c s))
 
   begins_set : (x : ℕ) (e : Node) (s : State) → Begins s.output (set w n frame x e s)
   begins_set x e s = begins_then s.output _ _ (begins_eval e s) (λ v s. begins_used v s _ (λ z. record { missing = []; split = here s }))
@@ -85,9 +87,9 @@ module _ (w : Widths) (n : ℕ) (frame : List ℕ) where
   begins_loop zero e body h s = begins_stopped s
   begins_loop (suc k) e body h s =
       begins_then s.output _ _ (begins_eval e s) (λ v s. begins_used v s _ (λ z.
-          begins_if (int_eq z (pos 0)) s.output _ _ (begins_went _ s)
-          (begins_if (nat_eq s.turns n) s.output _ _ (begins_stopped s)
-              (begins_then s.output _ _ (h (record { objects = s.objects; output = s.output; marks = s.marks; turns = s.turns + 1 })) (λ _ s. begins_loop k e body h s)))))
+      begins_if (int_eq z (pos 0)) s.output _ _ (begins_went _ s)
+      (begins_if (nat_eq s.turns n) s.output _ _ (begins_stopped s)
+      (begins_then s.output _ _ (h (record { objects = s.objects; output = s.output; marks = s.marks; turns = s.turns + 1 })) (λ _ s. begins_loop k e body h s)))))
 
   mutual
     begins_act : (a : Action) (s : State) → Begins s.output (act w n frame a s)

@@ -1,21 +1,15 @@
 -- Runs of parts make the run of the whole.
-use Rattle.std.proofs.Common.{◌≡◌, ℕ, zero, suc, ◌+◌, ℤ, pos, List, ◌++◌, map, refl, sym, ap, ◌∙◌, append_assoc, true, false, nat_eq}
+use Rattle.std.proofs.Common.{ℕ, List, ◌++◌, refl, append_assoc}
 use Rattle.std.specs.Prelude.{Result, Ok, Err}
-use Rattle.std.specs.Ordering.{int_eq}
 use Rattle.std.specs.declared.option.Option.{Option}
-use Rattle.porch_edge.specs.Streams.{Grew, Grew-twice}
-use Rattle.porch_syntax.specs.Tree.{Node, Actions, action, Action}
-use Rattle.porch_meaning.specs.declared.act.Act.{Act}
-use Rattle.porch_meaning.specs.Integers.{Widths}
-use Rattle.porch_meaning.specs.Store.{Value, number, State, Mark}
-use Rattle.porch_meaning.specs.Mean.{Outcome, Went, Gave, Undefined, Stopped, done, and_then, turn, loop, used, act, acts}
+use Rattle.porch_edge.specs.Streams.{Grew-twice}
+use Rattle.porch_values.specs.declared.widths.Widths.{Widths}
+use Rattle.porch_meaning.specs.Store.{State}
+use Rattle.porch_meaning.specs.Mean.{Outcome, and_then}
 use Rattle.porch_machine.specs.declared.cell.Cell.{Cell}
 use Rattle.porch_machine.specs.declared.run.Stop.{Stop}
 use Rattle.porch_machine.specs.declared.run.Stop.TheVariants as stop
-use Rattle.porch_machine.specs.Cells.{state_of, frame_of}
-use Rattle.porch_machine.specs.Values.{value_of}
 use Rattle.porch_machine.specs.Early.{Ran, Leads, Comes, Begins}
-use Rattle.porch_machine.proofs.Values.{evaluates}
 use Rattle.porch_machine.proofs.Growth.{begins_then}
 
 abbrev pub Part : Type 0
@@ -30,14 +24,14 @@ module _ (c0 c1 c2 : List Cell) (t0 t1 t2 : ℕ) (h0 h1 h2 : Option (List ℕ)) 
   joined f g r a b = record {
     more = a.more ++ b.more;
     grew = Grew-twice h0 h1 h2 a.more b.more a.grew b.grew;
-    comes = λ w output marks. rw (a.leads w output marks, ← append_assoc output a.more b.more) (b.comes w (output ++ a.more) marks)
+    comes = λ w output marks. rw (a.leads w output marks, ← append_assoc output a.more b.more) (b.comes w (output ++ a.more) marks);
   }
 
   pub led : (f g h : Part) → Leads f g c0 c1 t0 t1 h0 h1 → Leads g h c1 c2 t1 t2 h1 h2 → Leads f h c0 c2 t0 t2 h0 h2
   led f g h a b = record {
     more = a.more ++ b.more;
     grew = Grew-twice h0 h1 h2 a.more b.more a.grew b.grew;
-    leads = λ w output marks. rw (a.leads w output marks, ← append_assoc output a.more b.more) (b.leads w (output ++ a.more) marks)
+    leads = λ w output marks. rw (a.leads w output marks, ← append_assoc output a.more b.more) (b.leads w (output ++ a.more) marks);
   }
 
 module _ (c0 c1 : List Cell) (t0 t1 : ℕ) (h0 h1 : Option (List ℕ)) where

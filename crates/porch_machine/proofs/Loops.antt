@@ -1,18 +1,18 @@
 -- The turns of a loop, one after another.
-use Rattle.std.proofs.Common.{◌≡◌, ◌≢◌, ◌≤◌, ◌<◌, ◌+◌, ◌⊎◌, ℕ, zero, suc, ℤ, pos, List, [], ◌++◌, Bool, true, false, refl, sym, ap, eq-eqb, ◌∙◌, arith, length}
+use Rattle.std.proofs.Common.{◌≡◌, ◌≤◌, ◌<◌, ◌+◌, ℕ, zero, suc, ℤ, pos, List, [], Bool, true, false, refl, sym, ap, eq-eqb, ◌∙◌, arith}
 use Rattle.std.proofs.lemmas.List.{append-nil}
 use Rattle.std.proofs.lemmas.Bool.Decides.{nat_tests, Decides-int_eq}
 use Rattle.std.specs.Bool.{Decides}
-use Rattle.std.specs.Prelude.{nat_eq, if◌then◌else◌, Result, Ok, Err}
+use Rattle.std.specs.Prelude.{nat_eq, Result, Ok, Err}
 use Rattle.std.specs.Ordering.{int_eq}
 use Rattle.std.specs.declared.option.Option.{Option}
 use Rattle.std.specs.declared.option.Option.TheVariants.{Some, None}
-use Rattle.porch_edge.specs.Streams.{Grew, Grew-twice}
+use Rattle.porch_edge.specs.Streams.{Grew}
 use Rattle.porch_syntax.specs.Tree.{Node, Actions}
-use Rattle.porch_meaning.specs.declared.act.Act.{Act}
-use Rattle.porch_meaning.specs.Integers.{Widths}
-use Rattle.porch_meaning.specs.Store.{State, Mark}
-use Rattle.porch_meaning.specs.Mean.{Outcome, Undefined, Stopped, done, and_then, eval, loop, acts}
+use Rattle.porch_values.specs.declared.acts.Act.{Act}
+use Rattle.porch_values.specs.declared.widths.Widths.{Widths}
+use Rattle.porch_meaning.specs.Store.{Mark}
+use Rattle.porch_meaning.specs.Mean.{Undefined, Stopped, done, eval, loop, acts}
 use Rattle.porch_machine.specs.declared.cell.Cell.{Cell}
 use Rattle.porch_machine.specs.declared.run.Stop.{Stop}
 use Rattle.porch_machine.specs.declared.run.Stop.TheVariants as stop
@@ -51,7 +51,7 @@ pub begun : (n : ℕ) (frame : List ℕ) (e : Node) (body : Actions) (c : List C
 begun n frame e body c t h = record {
   fuel = n;
   enough = omega arith;
-  leads = record { more = []; grew = Grew-none h; leads = λ w output marks. rw (append-nil output) refl }
+  leads = record { more = []; grew = Grew-none h; leads = λ w output marks. rw (append-nil output) refl };
 }
 
 refuted : (b : Bool) (P : Type 0) → Decides b P → (P → ⊥) → b ≡ false
@@ -117,7 +117,7 @@ module _ (n : ℕ) (frame : List ℕ) (e : Node) (body : Actions) (c : List Cell
       loop_stops z stop v nonzero up ran =
           joined c0 c c' t0 (t + 1) t' h0 h h' (looped n frame e body (suc n)) _ (Err stop) (turns_once z v nonzero up)
           (stopped c c' (t + 1) t' h h' (body_of n frame body) (looped n frame e body started.fuel) stop
-              (λ w s. begins_loop w n frame started.fuel e _ (λ s. begins_acts w n frame body s) s) ran)
+          (λ w s. begins_loop w n frame started.fuel e _ (λ s. begins_acts w n frame body s) s) ran)
 
       goes_on : (k : ℕ) → started.fuel ≡ suc k → (z : ℤ) (d : Unit {0}) → value_of c e ≡ Ok z → (z ≡ pos 0 → ⊥) → (t ≡ n → ⊥) → Ran (body_of n frame body) c c' (t + 1) t' h h' (Ok d)
           → Leads (looped n frame e body (suc n)) (looped n frame e body (suc k)) c0 c' t0 t' h0 h'
@@ -131,7 +131,7 @@ module _ (n : ℕ) (frame : List ℕ) (e : Node) (body : Actions) (c : List Cell
       by_fuel (suc k) is below z d v nonzero ran later = record {
         fuel = k;
         enough = let enough = started.enough in omega arith;
-        leads = goes_on k is z d v nonzero (λ up. absurd (omega arith)) ran
+        leads = goes_on k is z d v nonzero (λ up. absurd (omega arith)) ran;
       }
 
       pub loop_goes_on : t < n → (z : ℤ) (d : Unit {0}) → value_of c e ≡ Ok z → (z ≡ pos 0 → ⊥) → Ran (body_of n frame body) c c' (t + 1) t' h h' (Ok d) → t + 1 ≤ t'

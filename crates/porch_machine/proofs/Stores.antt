@@ -1,15 +1,14 @@
 -- The variables in memory as the objects of the meaning.
-use Rattle.std.proofs.Common.{◌≡◌, ◌≤◌, ◌<◌, ◌+◌, ◌⊎◌, ℕ, ℤ, pos, List, [], ◌∷◌, map, length, true, false, inl, inr, sym, ◌∙◌, ap, arith, refl}
+use Rattle.std.proofs.Common.{◌≡◌, ◌≤◌, ◌<◌, ℕ, ℤ, List, map, length, inl, inr, sym, ◌∙◌, ap, arith, refl}
 use Rattle.std.proofs.Math.ListN.{set, get_or}
 use Rattle.std.proofs.Math.Seq.{set_out}
 use Rattle.std.proofs.lemmas.List.{map-set, length-map, get_or_past}
 use Rattle.std.proofs.lemmas.List.FromFn.{get_or-range_with_len, length-range_with_len}
 use Rattle.std.proofs.lemmas.Option.{slice_get-map, slice_get_past, slice_get_cases}
-use Rattle.std.specs.Prelude.{slice_get, slice_index_or, slice_set, Some, None}
+use Rattle.std.specs.Prelude.{slice_get, slice_index_or, Some, None}
 use Rattle.std.specs.declared.option.Option.{Option}
 use Rattle.std.specs.List.{range_with_len}
-use Rattle.std.specs.Option.{option_map}
-use Rattle.porch_meaning.specs.Store.{Value, number, indeterminate, Object, leaf_of, leaf_at, stored, forgotten, changed, with_leaf}
+use Rattle.porch_meaning.specs.Store.{Value, number, indeterminate, Object, leaf_at, stored, forgotten, changed, with_leaf}
 use Rattle.porch_machine.specs.declared.cell.Cell.{Cell}
 use Rattle.porch_machine.specs.Cells.{cell_value, int_object, object_in, frame_of}
 
@@ -36,8 +35,8 @@ value_at (Some c) = cell_value c
 pub leaf_at-cells : (cells : List Cell) (x : ℕ) → leaf_at (map object_in cells) (place_of cells x) 0 ≡ value_at (slice_get cells x)
 leaf_at-cells cells x =
     elim (slice_get_cases cells x).1 [
-      inl w ↦ rw (place_inside cells x w.1, slice_get-map object_in cells x, w.2) refl
-    | inr w ↦ rw (place_outside cells x w.0, none_outside cells, w.1) refl
+      | inl w ↦ rw (place_inside cells x w.1, slice_get-map object_in cells x, w.2) refl
+      | inr w ↦ rw (place_outside cells x w.0, none_outside cells, w.1) refl
     ]
 
 -- a change of one object is a change of its variable
@@ -45,8 +44,8 @@ changed-cells : (f : Object → Object) (cells : List Cell) (x : ℕ) (c : Cell)
     → changed f (map object_in cells) (slice_get (map object_in cells) (place_of cells x)) (place_of cells x) ≡ map object_in (set cells x c)
 changed-cells f cells x c h =
     elim (slice_get_cases cells x).1 [
-      inl w ↦ rw (place_inside cells x w.1, slice_get-map object_in cells x, w.2, h w.0) (sym (map-set object_in cells x c))
-    | inr w ↦ rw (place_outside cells x w.0, none_outside cells, set_out cells x c w.0) refl
+      | inl w ↦ rw (place_inside cells x w.1, slice_get-map object_in cells x, w.2, h w.0) (sym (map-set object_in cells x c))
+      | inr w ↦ rw (place_outside cells x w.0, none_outside cells, set_out cells x c w.0) refl
     ]
 
 pub stored-cells : (cells : List Cell) (x : ℕ) (c : Cell) (z : ℤ) → cell_value c ≡ number z → stored (map object_in cells) (place_of cells x) 0 (number z) ≡ map object_in (set cells x c)

@@ -1,18 +1,23 @@
 -- The value of an expression in memory is what the meaning says.
-use Rattle.std.proofs.Common.{◌≡◌, ◌*ℤ◌, ℕ, ℤ, pos, Bool, List, map, length, true, false, sym, ◌∙◌, ap, refl}
-use Rattle.std.specs.Prelude.{if◌then◌else◌, int_lt, slice_get, Some, None, Result, Ok, Err}
+use Rattle.std.proofs.Common.{◌≡◌, ◌*ℤ◌, ℕ, ℤ, Bool, List, true, false, ◌∙◌, ap, refl}
+use Rattle.std.specs.Prelude.{if◌then◌else◌, slice_get, Some, None, Result, Ok, Err}
 use Rattle.std.specs.declared.option.Option.{Option}
 use Rattle.porch_syntax.specs.declared.tree.Sign.{Sign}
+use Rattle.porch_syntax.specs.declared.tree.Sign.TheVariants.{Plus, Minus}
 use Rattle.porch_syntax.specs.Tree.{Node, variable, whole, character, nested, product, sum, less, Nodes, no_nodes, node, Terms, no_terms, term}
-use Rattle.porch_meaning.specs.declared.act.Act.{Act}
-use Rattle.porch_meaning.specs.declared.act.Act.TheVariants.{Overflow, Indeterminate}
-use Rattle.porch_meaning.specs.Integers.{Widths, fits_bits}
+use Rattle.porch_values.specs.declared.acts.Act.{Act}
+use Rattle.porch_values.specs.declared.acts.Act.TheVariants.{Overflow, Indeterminate}
+use Rattle.porch_types.specs.declared.shapes.Kind.TheVariants.{Int}
+use Rattle.porch_values.specs.declared.acts.Op.{Op}
+use Rattle.porch_values.specs.declared.acts.Op.TheVariants.{Mul}
+use Rattle.porch_values.specs.declared.widths.Widths.{Widths}
+use Rattle.porch_values.specs.Integers.{applied, in_range}
 use Rattle.porch_meaning.specs.Store.{Value, number, indeterminate, State, Mark}
-use Rattle.porch_meaning.specs.Mean.{Outcome, Went, Undefined, and_then, read, result, operated, by_sign, truth, eval, eval_factors, eval_terms}
+use Rattle.porch_meaning.specs.Mean.{Outcome, Went, Undefined, and_then, read, result, operated, op_of, eval, eval_factors, eval_terms}
 use Rattle.porch_machine.specs.declared.cell.Cell.{Cell}
-use Rattle.porch_machine.specs.Cells.{state_of, frame_of, cell_value, object_in}
-use Rattle.porch_machine.specs.Values.{read_of, int_result, with_value, value_of, factors_of, terms_of}
-use Rattle.porch_machine.proofs.Stores.{value_at, place_of, leaf_at-cells}
+use Rattle.porch_machine.specs.Cells.{state_of, frame_of}
+use Rattle.porch_machine.specs.Values.{read_of, by_sign, int_result, with_value, value_of, factors_of, terms_of}
+use Rattle.porch_machine.proofs.Stores.{value_at, leaf_at-cells}
 
 -- an expression that went on with a value, or met an act
 abbrev pub answered : Result ℤ Act → State → Outcome
@@ -31,20 +36,17 @@ chained : (r : Result ℤ Act) (go : ℤ → Result ℤ Act) (next : Value → S
 chained (Ok z) go next s h = h z
 chained (Err a) go next s h = refl
 
-operated-int : (w : Widths) (exact : ℤ → ℤ → ℤ) (x y : ℤ) (s : State) → operated w exact (number x) (number y) s ≡ answered (int_result (exact x y)) s
-operated-int w exact x y s = by_test (fits_bits 32 (exact x y)) (exact x y) s
-  where
-    by_test : (b : Bool) (z : ℤ) (s : State) → result (if b then Ok z else Err Overflow) s ≡ answered (if b then Ok z else Err Overflow) s
-    by_test true z s = refl
-    by_test false z s = refl
+in_int : (b : Bool) (z : ℤ) (s : State) → result (if b then Ok z else Err Overflow) s ≡ answered (if b then Ok z else Err Overflow) s
+in_int true z s = refl
+in_int false z s = refl
 
--- a truth value is in the range of int
-truth-int : (x y : ℤ) → int_result (truth x y) ≡ Ok (truth x y)
-truth-int x y = by_test (int_lt x y)
-  where
-    by_test : (b : Bool) → int_result (if b then pos 1 else pos 0) ≡ Ok (if b then pos 1 else pos 0)
-    by_test true = refl
-    by_test false = refl
+-- an operator of int, by its exact result
+operated-int : (w : Widths) (op : Op) (x y z : ℤ) (s : State) → applied op Int w x y ≡ int_result z → operated w op (number x) (number y) s ≡ answered (int_result z) s
+operated-int w op x y z s h = ap (λ (r : Result ℤ Act). result r s) h ∙ in_int (in_range Int 32 z) z s
+
+applied-sign : (w : Widths) (sign : Sign) (x y : ℤ) → applied (op_of sign) Int w x y ≡ int_result (by_sign sign x y)
+applied-sign w Plus x y = refl
+applied-sign w Minus x y = refl
 
 module _ (w : Widths) (n : ℕ) (cells : List Cell) (output : List ℕ) (marks : List Mark) (turns : ℕ) where
   abbrev here : State
@@ -59,12 +61,12 @@ module _ (w : Widths) (n : ℕ) (cells : List Cell) (output : List ℕ) (marks :
     evaluates (product e es) = rw (evaluates e) (chained (value_of cells e) _ _ here (λ z. factors es z))
     evaluates (sum e ts) = rw (evaluates e) (chained (value_of cells e) _ _ here (λ z. terms ts z))
     evaluates (less a b) =
-        rw (evaluates a) (chained (value_of cells a) _ _ here (λ x. rw (evaluates b) (chained (value_of cells b) _ _ here (λ y. operated-int w truth x y here ∙ ap (λ r. answered r here) (truth-int x y)))))
+        rw (evaluates a) (chained (value_of cells a) _ _ here (λ x. rw (evaluates b) (chained (value_of cells b) _ _ here (λ y. refl))))
 
     factors : (es : Nodes) (z : ℤ) → eval_factors w n (frame_of cells) es (number z) here ≡ answered (factors_of cells es z) here
     factors no_nodes z = refl
-    factors (node e es) z = rw (evaluates e) (chained (value_of cells e) _ _ here (λ b. rw (operated-int w ◌*ℤ◌ z b here) (chained (int_result (z *ℤ b)) _ _ here (λ c. factors es c))))
+    factors (node e es) z = rw (evaluates e) (chained (value_of cells e) _ _ here (λ b. rw (operated-int w Mul z b (z *ℤ b) here refl) (chained (int_result (z *ℤ b)) _ _ here (λ c. factors es c))))
 
     terms : (ts : Terms) (z : ℤ) → eval_terms w n (frame_of cells) ts (number z) here ≡ answered (terms_of cells ts z) here
     terms no_terms z = refl
-    terms (term sign e ts) z = rw (evaluates e) (chained (value_of cells e) _ _ here (λ b. rw (operated-int w (by_sign sign) z b here) (chained (int_result (by_sign sign z b)) _ _ here (λ c. terms ts c))))
+    terms (term sign e ts) z = rw (evaluates e) (chained (value_of cells e) _ _ here (λ b. rw (operated-int w (op_of sign) z b (by_sign sign z b) here (applied-sign w sign z b)) (chained (int_result (by_sign sign z b)) _ _ here (λ c. terms ts c))))

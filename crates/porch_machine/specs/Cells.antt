@@ -1,8 +1,8 @@
 -- What the variables in memory stand for.
-use Rattle.std.specs.Prelude.{ℕ, ℤ, List, [], ◌∷◌, map, length, Bool, true, if◌then◌else◌, Option, Some, None}
+use Rattle.std.specs.Prelude.{ℕ, ℤ, List, [], ◌∷◌, map, length, true, if◌then◌else◌, Option, Some, None}
 use Rattle.std.specs.Int.{w32, from_le_bytes, cast_signed}
 use Rattle.std.specs.List.{range_with_len}
-use Rattle.porch_meaning.specs.Types.{int_type}
+use Rattle.porch_meaning.specs.Mean.{int_type}
 use Rattle.porch_meaning.specs.Store.{Value, number, indeterminate, Object, State, Mark}
 use Rattle.porch_machine.specs.declared.cell.Cell.{Cell}
 

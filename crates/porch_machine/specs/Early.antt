@@ -1,13 +1,13 @@
 -- What a run of a program's tree gives. `HasRun` is what a caller sees; the rest is between the functions of this crate.
-use Rattle.std.specs.Prelude.{ℕ, ℤ, pos, map, replicate, ◌≡◌, ◌≤◌, ◌+◌, List, [], ◌∷◌, ◌++◌, length, Result, Ok, Err, ⊤}
+use Rattle.std.specs.Prelude.{ℕ, pos, map, replicate, ◌≡◌, ◌≤◌, ◌+◌, List, [], ◌∷◌, ◌++◌, length, Result, Ok, Err, ⊤}
 use Rattle.std.specs.declared.option.Option.{Option}
 use Rattle.porch_edge.specs.Causes.{Rose}
 use Rattle.porch_syntax.specs.Tree.{Node, Program}
 use Rattle.porch_edge.specs.Streams.{Grew, GrewByPrefix}
-use Rattle.porch_meaning.specs.declared.act.Act.{Act}
-use Rattle.porch_meaning.specs.Integers.{Widths}
-use Rattle.porch_meaning.specs.Store.{Value, number, indeterminate, State, Mark}
-use Rattle.porch_meaning.specs.Mean.{Outcome, Went, Gave, Undefined, Stopped, and_then, done, set, declare, acts, Meaning, Ending, Ended, Met, Paused}
+use Rattle.porch_values.specs.declared.acts.Act.{Act}
+use Rattle.porch_values.specs.declared.widths.Widths.{Widths}
+use Rattle.porch_meaning.specs.Store.{number, indeterminate, State, Mark}
+use Rattle.porch_meaning.specs.Mean.{Outcome, Went, Gave, Undefined, Stopped, and_then, done, set, declare, acts, Meaning, Ended, Met, Paused}
 use Rattle.porch_machine.specs.declared.cell.Cell.{Cell}
 use Rattle.porch_machine.specs.declared.run.Stop.{Stop}
 use Rattle.porch_machine.specs.declared.run.Stop.TheVariants as stop

@@ -1,21 +1,27 @@
 -- The value of an expression over the variables in memory. Contracts inside this crate cite it; that it is what the
 -- meaning says is proved of it.
-use Rattle.std.specs.Prelude.{ℕ, ℤ, pos, ◌*ℤ◌, List, slice_get, if◌then◌else◌, Option, Some, None, Result, Ok, Err}
+use Rattle.std.specs.Prelude.{ℤ, pos, ◌+ℤ◌, ◌-ℤ◌, ◌*ℤ◌, List, slice_get, if◌then◌else◌, Option, Some, None, Result, Ok, Err}
 use Rattle.std.specs.Int.{w32, from_le_bytes, cast_signed}
+use Rattle.porch_syntax.specs.declared.tree.Sign.{Sign}
+use Rattle.porch_syntax.specs.declared.tree.Sign.TheVariants.{Plus, Minus}
 use Rattle.porch_syntax.specs.Tree.{Node, variable, whole, character, nested, product, sum, less, Nodes, no_nodes, node, Terms, no_terms, term}
-use Rattle.porch_meaning.specs.declared.act.Act.{Act}
-use Rattle.porch_meaning.specs.declared.act.Act.TheVariants.{Overflow, Indeterminate}
-use Rattle.porch_meaning.specs.Integers.{fits_bits}
-use Rattle.porch_meaning.specs.Mean.{by_sign, truth}
+use Rattle.porch_values.specs.declared.acts.Act.{Act}
+use Rattle.porch_values.specs.declared.acts.Act.TheVariants.{Indeterminate}
+use Rattle.porch_values.specs.Integers.{as_int_of}
+use Rattle.porch_meaning.specs.Mean.{truth}
 use Rattle.porch_machine.specs.declared.cell.Cell.{Cell}
 
 abbrev pub read_of : Option Cell → Result ℤ Act
 read_of None = Err Indeterminate
 read_of (Some c) = if c.set then Ok (cast_signed w32 (from_le_bytes w32 c.bytes)) else Err Indeterminate
 
+abbrev pub by_sign : Sign → ℤ → ℤ → ℤ
+by_sign Plus x y = x +ℤ y
+by_sign Minus x y = x -ℤ y
+
 -- what an operator of int gives for an exact result
 abbrev pub int_result : ℤ → Result ℤ Act
-int_result z = if fits_bits 32 z then Ok z else Err Overflow
+int_result = as_int_of
 
 abbrev pub with_value : Result ℤ Act → (ℤ → Result ℤ Act) → Result ℤ Act
 with_value (Ok z) go = go z

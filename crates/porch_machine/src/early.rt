@@ -3,20 +3,18 @@
 ghost use Rattle.std.specs.Prelude.{◌≡◌, ◌≤◌, map, IfOk, []};
 ghost use Rattle.std.specs.Option.{option_map};
 ghost use Rattle.porch_syntax.specs.Tree.{node_of, program_of};
-ghost use Rattle.porch_meaning.specs.Types.{kinds};
-ghost use Rattle.porch_meaning.specs.Integers.{Widths};
+ghost use Rattle.porch_types.specs.Leaves.{kind_types};
+ghost use Rattle.porch_values.specs.declared.widths.Widths.{Widths};
 ghost use Rattle.porch_meaning.specs.Mean.{mean};
 ghost use Rattle.porch_machine.specs.Cells.{frame_of};
 ghost use Rattle.porch_machine.specs.Early.{Declared, DeclaredOne, HasRun, AreEmpty, Ran, Caused, block_of, end_of, EndCaused};
 
-use std::alloc::{AllocError, Global};
-
-use porch_edge::Sink;
-use porch_meaning::Act;
-use porch_syntax::{Expr, Tree};
-
 use crate::cell::Cell;
 use crate::run::{Stop, assign, run_all, store};
+use porch_edge::Sink;
+use porch_syntax::{Expr, Tree};
+use porch_values::Act;
+use std::alloc::{AllocError, Global};
 
 /// How a run ended, and after how many turns.
 #[derive(Clone, Copy, Debug, PartialEq, Eq)]
@@ -103,7 +101,7 @@ fn end_at(stop: Result<(), Stop>, turns: u64) -> EarlyEnd
 /// What it shows and how it ends is the meaning of the program, under every set of widths of long, since the language
 /// has none.
 pub fn early_run<O: Sink>(alloc: Global, tree: &Tree, turns: u64, out: &mut O) -> EarlyEnd
-    ensures runs { (w : Widths) → HasRun (mean kinds (program_of tree.now) w turns []) (O.held out.old) (O.held out.new) result }
+    ensures runs { (w : Widths) → HasRun (mean kind_types (program_of tree.now) w turns []) (O.held out.old) (O.held out.new) result }
     ensures cause { EndCaused (O.faults out.old) (O.faults out.new) result }
 {
     if turns == 0 {

@@ -2,17 +2,15 @@
 
 ghost use Rattle.std.specs.Prelude.{◌≡◌, ◌≤◌, suc, map, slice_set};
 ghost use Rattle.porch_syntax.specs.Tree.{node_of, action_of, actions_of};
-ghost use Rattle.porch_meaning.specs.Integers.{low_bits};
-ghost use Rattle.porch_meaning.specs.Mean.{act, acts, loop};
+ghost use Rattle.porch_meaning.specs.Mean.{act, acts, byte_of, loop};
 ghost use Rattle.porch_machine.specs.Cells.{frame_of};
 ghost use Rattle.porch_machine.specs.Early.{Assigned, Shows, Ran, Caused};
 
-use porch_edge::Sink;
-use porch_meaning::Act;
-use porch_syntax::{Expr, Stmt};
-
 use crate::cell::Cell;
 use crate::value::value;
+use porch_edge::Sink;
+use porch_syntax::{Expr, Stmt};
+use porch_values::Act;
 
 /// Why statements don't go on.
 #[derive(Clone, Copy, Debug, PartialEq, Eq)]
@@ -49,14 +47,14 @@ pub(crate) fn assign(cells: &mut [Cell], variable: usize, expr: &Expr) -> Result
 
 /// The low byte of a value.
 fn low_byte(value: i32) -> u8
-    ensures { result ≡ low_bits 8 value }
+    ensures { result ≡ byte_of value }
 {
     (value.cast_unsigned() % 256) as u8
 }
 
 /// Shows the low byte of a value.
 fn show<O: Sink>(value: i32, out: &mut O) -> Result<(), Stop>
-    ensures shown { Shows (O.held out.old) (O.held out.new) (low_bits 8 value) result }
+    ensures shown { Shows (O.held out.old) (O.held out.new) (byte_of value) result }
     ensures cause { Caused (O.faults out.old) (O.faults out.new) result }
 {
     match out.write(&[low_byte(value)]) {

@@ -2,13 +2,12 @@
 
 ghost use Rattle.std.specs.Prelude.{◌≡◌, ◌*ℤ◌, map, slice_get};
 ghost use Rattle.porch_syntax.specs.Tree.{node_of, nodes_of, terms_of as plain_terms};
-ghost use Rattle.porch_meaning.specs.Mean.{by_sign, truth};
-ghost use Rattle.porch_machine.specs.Values.{read_of, int_result, value_of, factors_of, terms_of};
-
-use porch_meaning::Act;
-use porch_syntax::{Expr, Sign};
+ghost use Rattle.porch_meaning.specs.Mean.{truth};
+ghost use Rattle.porch_machine.specs.Values.{by_sign, read_of, int_result, value_of, factors_of, terms_of};
 
 use crate::cell::Cell;
+use porch_syntax::{Expr, Sign};
+use porch_values::Act;
 
 /// The value of a variable.
 fn read(cells: &[Cell], variable: u32) -> Result<i32, Act>

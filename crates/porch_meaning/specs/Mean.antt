@@ -1,15 +1,19 @@
 -- What a program does in at most n turns, for the widths of long in w. A turn is the call of main, or a start of a loop's
 -- body. Parts are taken from left to right, each in the state that the one before left.
-use Rattle.std.specs.Prelude.{ℕ, zero, suc, ◌+◌, ◌*◌, ℤ, pos, ◌+ℤ◌, ◌-ℤ◌, ◌*ℤ◌, int_lt, List, [], ◌∷◌, ◌++◌, length, map, slice_index_or, if◌then◌else◌, nat_eq, Option, Some, None, Result, Ok, Err}
+use Rattle.std.specs.Prelude.{ℕ, zero, suc, ◌+◌, ℤ, pos, int_lt, unsigned_abs, List, [], ◌∷◌, ◌++◌, length, map, slice_index_or, if◌then◌else◌, nat_eq, Option, Some, None, Result, Ok, Err}
 use Rattle.std.specs.Ordering.{int_eq}
 use Rattle.std.specs.List.{range_with_len}
 use Rattle.porch_syntax.specs.declared.tree.Sign.{Sign}
 use Rattle.porch_syntax.specs.declared.tree.Sign.TheVariants.{Plus, Minus}
 use Rattle.porch_syntax.specs.Tree.{Node, variable, whole, character, nested, product, sum, less, Nodes, no_nodes, node, Terms, no_terms, term, Action, assign, repeat, putchar, give, Actions, no_actions, action, Program}
-use Rattle.porch_meaning.specs.declared.act.Act.{Act}
-use Rattle.porch_meaning.specs.declared.act.Act.TheVariants.{Indeterminate}
-use Rattle.porch_meaning.specs.Types.{Ty, Kind, int, unsigned_char, int_type}
-use Rattle.porch_meaning.specs.Integers.{Widths, low_bits, result_in}
+use Rattle.porch_types.specs.declared.shapes.Kind.TheVariants.{Int}
+use Rattle.porch_types.specs.declared.shapes.Ty.{Ty}
+use Rattle.porch_values.specs.declared.acts.Act.{Act}
+use Rattle.porch_values.specs.declared.acts.Act.TheVariants.{Indeterminate}
+use Rattle.porch_values.specs.declared.acts.Op.{Op}
+use Rattle.porch_values.specs.declared.acts.Op.TheVariants.{Add, Sub, Mul}
+use Rattle.porch_values.specs.declared.widths.Widths.{Widths}
+use Rattle.porch_values.specs.Integers.{applied, low_bits}
 use Rattle.porch_meaning.specs.Store.{Value, number, null, pointer, indeterminate, Root, Object, Mark, State, start, fresh, seen, leaf_at, stored, forgotten, all_ended}
 
 pub data Outcome : Type 0 where
@@ -32,7 +36,7 @@ and_then (Stopped s) go = Stopped s
 abbrev pub done : State → Outcome
 done = Went indeterminate
 
--- A value is used: not where it is indeterminate by then.
+-- A value is used: not where it is indeterminate by then. Each value of this language is a number, or none.
 abbrev pub use_seen : Value → State → (ℤ → Outcome) → Outcome
 use_seen (number z) s go = go z
 use_seen null s go = Undefined Indeterminate s
@@ -52,12 +56,12 @@ result (Ok z) s = Went (number z) s
 result (Err a) s = Undefined a s
 
 -- both operands are used behind their evaluation
-abbrev pub operated : Widths → (ℤ → ℤ → ℤ) → Value → Value → State → Outcome
-operated w exact a b s = used a s (λ x. used b s (λ y. result (result_in w int (exact x y)) s))
+abbrev pub operated : Widths → Op → Value → Value → State → Outcome
+operated w op a b s = used a s (λ x. used b s (λ y. result (applied op Int w x y) s))
 
-abbrev pub by_sign : Sign → ℤ → ℤ → ℤ
-by_sign Plus x y = x +ℤ y
-by_sign Minus x y = x -ℤ y
+abbrev pub op_of : Sign → Op
+op_of Plus = Add
+op_of Minus = Sub
 
 -- the int 1 or 0
 abbrev pub truth : ℤ → ℤ → ℤ
@@ -65,6 +69,10 @@ truth x y = if int_lt x y then pos 1 else pos 0
 
 abbrev pub with_objects : State → List Object → State
 with_objects s objects = record { objects = objects; output = s.output; marks = s.marks; turns = s.turns }
+
+-- the low byte, as a number from 0 on
+abbrev pub byte_of : ℤ → ℕ
+byte_of z = unsigned_abs (low_bits 8 z)
 
 -- a byte more of output
 abbrev pub shown : State → ℕ → State
@@ -87,17 +95,17 @@ module _ (w : Widths) (n : ℕ) (frame : List ℕ) where
     eval (nested e) s = eval e s
     eval (product e es) s = and_then (eval e s) (λ a s. eval_factors es a s)
     eval (sum e ts) s = and_then (eval e s) (λ a s. eval_terms ts a s)
-    eval (less a b) s = and_then (eval a s) (λ x s. and_then (eval b s) (λ y s. operated w truth x y s))
+    eval (less a b) s = and_then (eval a s) (λ a s. and_then (eval b s) (λ b s. used a s (λ x. used b s (λ y. Went (number (truth x y)) s))))
 
     -- the factors behind a value
     pub eval_factors : Nodes → Value → State → Outcome
     eval_factors no_nodes a s = Went a s
-    eval_factors (node e es) a s = and_then (eval e s) (λ b s. and_then (operated w ◌*ℤ◌ a b s) (λ c s. eval_factors es c s))
+    eval_factors (node e es) a s = and_then (eval e s) (λ b s. and_then (operated w Mul a b s) (λ c s. eval_factors es c s))
 
     -- the terms behind a value
     pub eval_terms : Terms → Value → State → Outcome
     eval_terms no_terms a s = Went a s
-    eval_terms (term sign e ts) a s = and_then (eval e s) (λ b s. and_then (operated w (by_sign sign) a b s) (λ c s. eval_terms ts c s))
+    eval_terms (term sign e ts) a s = and_then (eval e s) (λ b s. and_then (operated w (op_of sign) a b s) (λ c s. eval_terms ts c s))
 
   -- the value of an expression is stored in a variable
   abbrev pub set : ℕ → Node → State → Outcome
@@ -113,7 +121,7 @@ module _ (w : Widths) (n : ℕ) (frame : List ℕ) where
     pub act : Action → State → Outcome
     act (assign x e) s = set x e s
     act (repeat e body) s = loop (suc n) e (λ s. acts body s) s
-    act (putchar e) s = and_then (eval e s) (λ v s. used v s (λ z. done (shown s (low_bits 8 z))))
+    act (putchar e) s = and_then (eval e s) (λ v s. used v s (λ z. done (shown s (byte_of z))))
     act (give e) s = and_then (eval e s) (λ v s. used v s (λ z. Gave (number z) s))
 
     pub acts : Actions → State → Outcome
@@ -140,12 +148,16 @@ back frame (Gave v s) = Went v (left frame s)
 back frame (Undefined a s) = Undefined a s
 back frame (Stopped s) = Stopped s
 
+-- the number of the type int, which is the fifth of the eight kinds
+abbrev pub int_type : ℕ
+int_type = 4
+
 -- main is called: its variables are ints
 abbrev pub call_main : List Ty → Widths → ℕ → Program → State → Outcome
 call_main types w n p s =
     turn n s (λ s.
-        let frame : List ℕ = range_with_len (length s.objects) (length p.declarations) in
-        back frame (and_then (declare w n frame 0 p.declarations (entered types (map (λ _. record { ty = int_type; count = 1 }) p.declarations) s)) (λ _ s. acts w n frame p.actions s)))
+    let frame : List ℕ = range_with_len (length s.objects) (length p.declarations) in
+    back frame (and_then (declare w n frame 0 p.declarations (entered types (map (λ _. record { ty = int_type; count = 1 }) p.declarations) s)) (λ _ s. acts w n frame p.actions s)))
 
 -- how a run comes to an end
 pub data Ending : Type 0 where
@@ -171,6 +183,7 @@ meaning_of (Gave v s) = said s (Met Indeterminate)
 meaning_of (Undefined a s) = said s (Met a)
 meaning_of (Stopped s) = said s Paused
 
--- The meaning of a program over a list of types, for widths of long, a number of turns, and the bytes of the input.
+-- The meaning of a program over a list of types, for widths of long, a number of turns, and the bytes of the input, which
+-- this language doesn't read.
 abbrev pub mean : List Ty → Program → Widths → ℕ → List ℕ → Meaning
 mean types p w n input = meaning_of (call_main types w n p start)

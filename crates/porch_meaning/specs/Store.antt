@@ -1,6 +1,7 @@
 -- Objects and their values, and the state of a run.
-use Rattle.std.specs.Prelude.{ℕ, ◌+◌, ◌*◌, ℤ, List, [], ◌∷◌, ◌++◌, length, map, replicate, slice_get, slice_set, slice_index_or, Bool, true, false, if◌then◌else◌, Option, Some, None}
-use Rattle.porch_meaning.specs.Types.{Ty, leaves_of}
+use Rattle.std.specs.Prelude.{ℕ, ◌*◌, ℤ, List, [], ◌∷◌, length, replicate, slice_get, slice_set, slice_index_or, Bool, true, false, if◌then◌else◌, Option, Some, None}
+use Rattle.porch_types.specs.declared.shapes.Ty.{Ty}
+use Rattle.porch_types.specs.Leaves.{leaves_of}
 
 -- what a leaf holds
 pub data Value : Type 0 where

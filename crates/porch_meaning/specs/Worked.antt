@@ -1,14 +1,14 @@
 -- Programs whose meaning is worked out, under a long of 64 bits.
-use Rattle.std.specs.Prelude.{ℕ, ℤ, pos, negsuc, ◌≡◌, ◌-◌, ◌^◌, List, [], ◌∷◌, Option, Some, None, true, false}
+use Rattle.std.specs.Prelude.{ℕ, pos, negsuc, ◌≡◌, List, [], ◌∷◌, Option, Some, None, true, false, refl}
 use Rattle.porch_syntax.specs.declared.tree.Sign.TheVariants.{Plus, Minus}
-use Rattle.porch_syntax.specs.Tree.{Node, variable, whole, character, nested, product, sum, less, no_nodes, node, no_terms, term, Action, assign, repeat, putchar, give, Actions, no_actions, action, Program}
-use Rattle.porch_meaning.specs.declared.act.Act.TheVariants.{Overflow, Indeterminate}
-use Rattle.porch_meaning.specs.Types.{kinds}
-use Rattle.porch_meaning.specs.Integers.{Widths}
-use Rattle.porch_meaning.specs.Mean.{mean, Meaning, Ending, Ended, Met, Paused}
+use Rattle.porch_syntax.specs.Tree.{Node, variable, whole, character, nested, product, sum, less, no_nodes, node, no_terms, term, Action, assign, repeat, putchar, give, Actions, no_actions, action}
+use Rattle.porch_types.specs.Leaves.{kind_types}
+use Rattle.porch_values.specs.declared.acts.Act.TheVariants.{Overflow, Indeterminate}
+use Rattle.porch_values.specs.declared.widths.Widths.{Widths}
+use Rattle.porch_meaning.specs.Mean.{mean, Ending, Ended, Met, Paused}
 
 abbrev pub wide_only : Widths
-wide_only = record { narrow = false; wide = true }
+wide_only = record { narrow = false; wide = true; some = refl }
 
 abbrev pub constant : ℕ → Node
 constant n = whole (pos n)
@@ -29,7 +29,7 @@ actions (a ∷ more) = action a (actions more)
 -- the program with these declarations and statements has this output, makes these turns and ends so, within n turns
 abbrev pub Means : List (Option Node) → List Action → ℕ → List ℕ → ℕ → Ending → Type 0
 Means declarations statements n output turns ending =
-    mean kinds (record { declarations = declarations; actions = actions statements }) wide_only n [] ≡ record { output = output; marks = []; turns = turns; ending = ending }
+    mean kind_types (record { declarations = declarations; actions = actions statements }) wide_only n [] ≡ record { output = output; marks = []; turns = turns; ending = ending }
 
 -- int i = 0; while (i < 3) { putchar('0' + i); i = i + 1; } return 0;
 abbrev pub counting : List Action
@@ -64,13 +64,13 @@ abbrev pub LoopsNest : Type 0
 LoopsNest =
     Means (Some (constant 0) ∷ None ∷ [])
     (repeat (less (variable 0) (constant 2))
-        (actions
-            (assign 1 (constant 0)
-            ∷ repeat (less (variable 1) (constant 2))
-                (actions
-                    (putchar (sum (character 97) (term Plus (times (variable 0) (constant 2)) (term Plus (variable 1) no_terms)))
-                    ∷ assign 1 (plus (variable 1) (constant 1)) ∷ []))
-            ∷ assign 0 (plus (variable 0) (constant 1)) ∷ []))
+    (actions
+    (assign 1 (constant 0)
+    ∷ repeat (less (variable 1) (constant 2))
+    (actions
+    (putchar (sum (character 97) (term Plus (times (variable 0) (constant 2)) (term Plus (variable 1) no_terms)))
+    ∷ assign 1 (plus (variable 1) (constant 1)) ∷ []))
+    ∷ assign 0 (plus (variable 0) (constant 1)) ∷ []))
     ∷ give (variable 0) ∷ [])
     9 (97 ∷ 98 ∷ 99 ∷ 100 ∷ []) 7 (Ended (pos 2))
 

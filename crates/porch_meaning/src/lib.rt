@@ -1,11 +1,8 @@
 //! What a program means: definitions, and cases of them that are worked out.
 //!
-//! `specs/` is what a reader has to believe: `Types` and `Integers` for types and results, `Store` for objects and their
-//! values, `Mean` for the meaning itself. The functions here have no body to run. Each states what some program means,
-//! and the check computes it.
+//! `specs/` is what a reader has to believe: `Store` for objects and their values, `Mean` for the meaning itself, over the
+//! types of porch_types and the integer results of porch_values. The functions here have no body to run. Each states
+//! what some program means, and the check computes it.
 #![tactic(auto)]
 
-pub mod act;
 pub mod worked;
-
-pub use act::Act;

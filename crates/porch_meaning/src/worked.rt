@@ -11,15 +11,13 @@ pub fn ends()
     ensures compares { Compares }
     ensures groups { GroupsToTheLeft }
     ensures shows { ShowsLowBytes }
-{
-}
+{}
 
 /// Programs whose turns are used up.
 pub fn pauses()
     ensures counting { PausesBehindThreeTurns }
     ensures at_once { BudgetOfOne }
-{
-}
+{}
 
 /// Programs that meet an undefined act.
 pub fn meets_acts()
@@ -29,5 +27,4 @@ pub fn meets_acts()
     ensures assigns { AssignsNoValue }
     ensures left { LeftOperandFirst }
     ensures right { ThenTheRight }
-{
-}
+{}

@@ -1,7 +1,7 @@
 use Rattle.std.proofs.Common.{◌≡◌, ℕ, List, map, drop}
 use Rattle.std.specs.Option.{option_map}
 use Rattle.porch_syntax.specs.Tree.{node_of}
-use Rattle.porch_meaning.specs.Integers.{Widths}
+use Rattle.porch_values.specs.declared.widths.Widths.{Widths}
 use Rattle.porch_meaning.specs.Store.{Mark}
 use Rattle.porch_meaning.specs.Mean.{declare}
 use Rattle.porch_machine.specs.Cells.{frame_of, state_of}

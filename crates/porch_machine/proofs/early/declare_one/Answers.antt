@@ -1,5 +1,3 @@
-use Rattle.std.proofs.Common.{ap, sym}
-use Rattle.std.specs.Option.{option_map}
 use Rattle.porch_syntax.specs.Tree.{node_of}
 use Rattle.porch_machine.proofs.Declarations.{declared_none, declared_some}
 use Rattle.porch_machine.proofs.early.declare_one.Goals as goal

@@ -1,8 +1,7 @@
-use Rattle.std.proofs.Common.{◌≡◌, List, length, map, sym, ◌∙◌, subst, ℕ}
+use Rattle.std.proofs.Common.{◌≡◌, length, map, sym, ◌∙◌, subst, ℕ}
 use Rattle.std.proofs.lemmas.List.{length-map}
 use Rattle.std.specs.Option.{option_map}
 use Rattle.porch_syntax.specs.Tree.{node_of, program_of}
-use Rattle.porch_machine.specs.declared.cell.Cell.{Cell}
 use Rattle.porch_machine.specs.Early.{AreEmpty}
 use Rattle.porch_machine.proofs.Ends.{has_run}
 use Rattle.porch_machine.proofs.early.early_run.Goals as goal

@@ -1,4 +1,4 @@
-use Rattle.std.proofs.Common.{◌≡◌, ◌≤◌, arith, subst, ℕ}
+use Rattle.std.proofs.Common.{◌≡◌, arith, subst, ℕ}
 use Rattle.porch_machine.specs.Early.{AreEmpty}
 use Rattle.porch_machine.proofs.Ends.{none_empty, one_more_empty}
 use Rattle.porch_machine.proofs.early.empty_cells.Goals as goal
