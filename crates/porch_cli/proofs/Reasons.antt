@@ -126,6 +126,9 @@ usage_write e = cc
 refused_write : (r : Refusal) → status.WriteFault ≡ status.Refused r → ⊥
 refused_write r e = cc
 
+memory_write : status.WriteFault ≡ status.NoMemory → ⊥
+memory_write e = cc
+
 read_write : status.WriteFault ≡ status.ReadFault → ⊥
 read_write e = cc
 
@@ -152,8 +155,11 @@ module _ (words : List (List ℕ)) (c : Changes) (err err' : Option (List ℕ)) 
   pub has_refused : (x : Refusal) → answer ≡ status.Refused x → IsRefused words c x
   has_refused x e = let r = own_reason (status.Refused x) (refused_write x) e in record { text = h.text; ordered = r.0; read = r.1; unlike = r.2; refusal = r.3; unwritten = r.4 }
 
-  pub has_read_fault : answer ≡ status.ReadFault → Rose c.read_faults c.read_faults'
-  has_read_fault e = (own_reason status.ReadFault read_write e).1
+  pub has_read_fault : answer ≡ status.ReadFault → Rose c.read_faults c.read_faults' × Grew c.held c.held' []
+  has_read_fault e = let r = own_reason status.ReadFault read_write e in (r.1, r.2)
+
+  pub has_no_memory : answer ≡ status.NoMemory → Grew c.held c.held' []
+  has_no_memory e = (own_reason status.NoMemory memory_write e).1
 
   pub has_write_fault : answer ≡ status.WriteFault → Rose c.write_faults c.write_faults' ⊎ Rose faults faults'
   has_write_fault e = elim h.closed [

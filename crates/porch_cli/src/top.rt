@@ -2,6 +2,7 @@
 
 ghost use Rattle.std.specs.Prelude.{◌≡◌, ◌≤◌, ◌<◌, ◌+◌, ◌^◌, ◌⊎◌, ℕ, ℤ, length, []};
 ghost use Rattle.porch_edge.specs.Causes.{Rose};
+ghost use Rattle.porch_edge.specs.Streams.{Grew};
 ghost use Rattle.porch_syntax.specs.declared.refusal.Refusal.{Refusal};
 ghost use Rattle.porch_values.specs.declared.acts.Act.{Act};
 ghost use Rattle.porch_meaning.specs.Mean.{Ended, Met, Paused};
@@ -122,8 +123,9 @@ pub fn porch<S: Source, O: Sink, E: Sink>(
         (changes S.left S.faults source.old source.new O.held O.faults out.old out.new) }
     ensures refused { (refusal : Refusal) → result ≡ Status.Refused refusal → IsRefused (texts words.now)
         (changes S.left S.faults source.old source.new O.held O.faults out.old out.new) refusal }
-    ensures read_fault { result ≡ Status.ReadFault → Rose (S.faults source.old) (S.faults source.new) }
+    ensures read_fault { result ≡ Status.ReadFault → Rose (S.faults source.old) (S.faults source.new) × Grew (O.held out.old) (O.held out.new) [] }
     ensures write_fault { result ≡ Status.WriteFault → Rose (O.faults out.old) (O.faults out.new) ⊎ Rose (E.faults err.old) (E.faults err.new) }
+    ensures no_memory { result ≡ Status.NoMemory → Grew (O.held out.old) (O.held out.new) [] }
     ensures written { result ≡ Status.WriteFault → IsWriteFault (texts words.now)
         (changes S.left S.faults source.old source.new O.held O.faults out.old out.new) }
 

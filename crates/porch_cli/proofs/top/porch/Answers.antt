@@ -1,5 +1,5 @@
 use Rattle.porch_cli.specs.Answers.{HasAnswered}
-use Rattle.porch_cli.proofs.Reasons.{has_done, has_trap, has_paused, has_usage, has_refused, has_read_fault, has_write_fault, has_written, has_unordered, has_refuses, has_completes, has_line, has_line_or_prefix}
+use Rattle.porch_cli.proofs.Reasons.{has_done, has_trap, has_paused, has_usage, has_refused, has_read_fault, has_no_memory, has_write_fault, has_written, has_unordered, has_refuses, has_completes, has_line, has_line_or_prefix}
 use Rattle.porch_cli.proofs.top.porch.Goals as goal
 
 -- the reason that the work gave, and the line that was written
@@ -28,6 +28,9 @@ returns-clause-refused g c = has_refused _ _ _ _ _ _ _ (answered g c)
 
 pub returns-clause-read_fault : goal.returns-clause-read_fault
 returns-clause-read_fault g c = has_read_fault _ _ _ _ _ _ _ (answered g c)
+
+pub returns-clause-no_memory : goal.returns-clause-no_memory
+returns-clause-no_memory g c = has_no_memory _ _ _ _ _ _ _ (answered g c)
 
 pub returns-clause-write_fault : goal.returns-clause-write_fault
 returns-clause-write_fault g c = has_write_fault _ _ _ _ _ _ _ (answered g c)

@@ -1,0 +1,6 @@
+def main():
+    i = 0
+    while i < 10000000:
+        i = i + 1 + 0 + 0
+    return 0
+main()
