@@ -7,6 +7,7 @@ from pathlib import Path
 TOP = Path(__file__).resolve().parent.parent
 # | promise | `file` | `function` | `clause`, `clause` |
 ROW = re.compile(r"^\|[^|]*\| `(crates/[^`]+)` \| `(\w+)` \| ([^|]+) \|$")
+HEADERS = ["| Promise | File | Function | Clauses |", "|---|---|---|---|"]
 
 
 def contract(text, function):
@@ -39,8 +40,11 @@ def missing(row):
 
 def main():
     lines = (TOP / "docs" / "PROMISES.md").read_text().splitlines()
-    rows = [row.groups() for row in map(ROW.match, lines) if row]
-    faults = [fault for row in rows for fault in missing(row)]
+    table = [line for line in lines if line.startswith("|") and line not in HEADERS]
+    rows = [row.groups() for row in map(ROW.match, table) if row]
+    # A row that can't be read would else pass unseen.
+    faults = [f"no row of file, function and clauses: {line}" for line in table if not ROW.match(line)]
+    faults += [fault for row in rows for fault in missing(row)]
     if not rows:
         faults.append("docs/PROMISES.md has no row")
     for fault in faults:
