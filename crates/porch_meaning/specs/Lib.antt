@@ -1,3 +1,3 @@
-pub mod Store
+pub mod State
 pub mod Mean
 pub mod Worked

@@ -1,6 +1,6 @@
 -- What a program does in at most n turns, for the widths of long in w. A turn is the call of main, or a start of a loop's
 -- body. Parts are taken from left to right, each in the state that the one before left.
-use Rattle.std.specs.Prelude.{ℕ, zero, suc, ◌+◌, ℤ, pos, int_lt, unsigned_abs, List, [], ◌∷◌, ◌++◌, length, map, slice_index_or, if◌then◌else◌, nat_eq, Option, Some, None, Result, Ok, Err}
+use Rattle.std.specs.Prelude.{ℕ, zero, suc, ◌+◌, ℤ, pos, List, [], ◌∷◌, ◌++◌, length, map, slice_index_or, if◌then◌else◌, nat_eq, Option, Some, None, Result, Ok, Err}
 use Rattle.std.specs.Ordering.{int_eq}
 use Rattle.std.specs.List.{range_with_len}
 use Rattle.porch_syntax.specs.declared.tree.Sign.{Sign}
@@ -13,8 +13,10 @@ use Rattle.porch_values.specs.declared.acts.Act.TheVariants.{Indeterminate}
 use Rattle.porch_values.specs.declared.acts.Op.{Op}
 use Rattle.porch_values.specs.declared.acts.Op.TheVariants.{Add, Sub, Mul}
 use Rattle.porch_values.specs.declared.widths.Widths.{Widths}
-use Rattle.porch_values.specs.Integers.{applied, low_bits}
-use Rattle.porch_meaning.specs.Store.{Value, number, null, pointer, indeterminate, Root, Object, Mark, State, start, fresh, seen, leaf_at, stored, forgotten, all_ended}
+use Rattle.porch_values.specs.Integers.{applied}
+use Rattle.porch_objects.specs.Store.{Value, number, null, pointer, indeterminate, Root, Object, fresh, seen, leaf_at, stored, forgotten, all_ended}
+use Rattle.porch_objects.specs.Meaning.{Meaning, Ending, Ended, Met, Paused, truth, byte_of}
+use Rattle.porch_meaning.specs.State.{State, start}
 
 pub data Outcome : Type 0 where
   -- goes on: an expression with its value, a statement with none
@@ -63,16 +65,8 @@ abbrev pub op_of : Sign → Op
 op_of Plus = Add
 op_of Minus = Sub
 
--- the int 1 or 0
-abbrev pub truth : ℤ → ℤ → ℤ
-truth x y = if int_lt x y then pos 1 else pos 0
-
 abbrev pub with_objects : State → List Object → State
 with_objects s objects = record { objects = objects; output = s.output; marks = s.marks; turns = s.turns }
-
--- the low byte, as a number from 0 on
-abbrev pub byte_of : ℤ → ℕ
-byte_of z = unsigned_abs (low_bits 8 z)
 
 -- a byte more of output
 abbrev pub shown : State → ℕ → State
@@ -158,19 +152,6 @@ call_main types w n p s =
     turn n s (λ s.
     let frame : List ℕ = range_with_len (length s.objects) (length p.declarations) in
     back frame (and_then (declare w n frame 0 p.declarations (entered types (map (λ _. record { ty = int_type; count = 1 }) p.declarations) s)) (λ _ s. acts w n frame p.actions s)))
-
--- how a run comes to an end
-pub data Ending : Type 0 where
-  Ended : (z : ℤ) → Ending
-  Met : (a : Act) → Ending
-  Paused : Ending
-
--- what is said of a run
-pub record Meaning : Type 0 where
-  pub output : List ℕ
-  pub marks : List Mark
-  pub turns : ℕ
-  pub ending : Ending
 
 abbrev pub said : State → Ending → Meaning
 said s e = record { output = s.output; marks = s.marks; turns = s.turns; ending = e }

@@ -5,7 +5,8 @@ use Rattle.porch_syntax.specs.Tree.{Node, variable, whole, character, nested, pr
 use Rattle.porch_types.specs.Leaves.{kind_types}
 use Rattle.porch_values.specs.declared.acts.Act.TheVariants.{Overflow, Indeterminate}
 use Rattle.porch_values.specs.declared.widths.Widths.{Widths}
-use Rattle.porch_meaning.specs.Mean.{mean, Ending, Ended, Met, Paused}
+use Rattle.porch_objects.specs.Meaning.{Ending, Ended, Met, Paused}
+use Rattle.porch_meaning.specs.Mean.{mean}
 
 abbrev pub wide_only : Widths
 wide_only = record { narrow = false; wide = true; some = refl }

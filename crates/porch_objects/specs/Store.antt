@@ -1,4 +1,4 @@
--- Objects and their values, and the state of a run.
+-- Objects and their values: what the meaning of a source and the flat abstract machine have in common.
 use Rattle.std.specs.Prelude.{ℕ, ◌*◌, ℤ, List, [], ◌∷◌, length, replicate, slice_get, slice_set, slice_index_or, Bool, true, false, if◌then◌else◌, Option, Some, None}
 use Rattle.porch_types.specs.declared.shapes.Ty.{Ty}
 use Rattle.porch_types.specs.Leaves.{leaves_of}
@@ -30,15 +30,6 @@ pub data Mark : Type 0 where
   allocated : (count : ℕ) → (leaves : ℕ) → Mark
   -- a free that ended an object
   freed : Mark
-
-pub record State : Type 0 where
-  pub objects : List Object
-  pub output : List ℕ
-  pub marks : List Mark
-  pub turns : ℕ
-
-abbrev pub start : State
-start = record { objects = []; output = []; marks = []; turns = 0 }
 
 -- an object that was given no value
 abbrev pub fresh : List Ty → Root → Object

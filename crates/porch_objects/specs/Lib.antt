@@ -1,0 +1,3 @@
+pub mod Store
+pub mod Meaning
+pub mod Laws
