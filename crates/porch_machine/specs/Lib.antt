@@ -1,3 +1,7 @@
-pub mod Cells
-pub mod Values
-pub mod Early
+pub mod Leaf
+pub mod Room
+pub mod Column
+pub mod StandsFor
+pub mod ByteRun
+pub mod Steps
+pub mod Laws

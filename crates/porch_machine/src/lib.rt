@@ -1,12 +1,10 @@
-//! Runs programs. For now it walks the tree of one, with each variable in four bytes.
-//!
-//! `early` has the run, `value` the value of an expression, `cell` a variable. What a run is to give stands in
-//! `specs/Early.antt`, by the meaning of the program.
+//! The machine: a flat program over bytes, under a layout.
 #![tactic(auto)]
 
-pub mod cell;
-pub mod early;
-pub mod run;
-pub mod value;
+ghost use Rattle.porch_machine.specs.Steps.{Fits};
+ghost use Rattle.porch_machine.specs.Laws.{RunsAgree, RunsAreOne};
 
-pub use early::{EarlyEnd, early_run};
+pub mod step;
+
+pub use step::Step;
+pub fn nothing() {}
