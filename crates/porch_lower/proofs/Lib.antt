@@ -1,0 +1,5 @@
+pub mod SameCells
+pub mod StepsRun
+pub mod StepsAt
+pub mod ThroughParts
+pub mod ThroughExpr
