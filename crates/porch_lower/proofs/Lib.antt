@@ -1,5 +1,8 @@
 pub mod SameCells
+pub mod SameMean
 pub mod StepsRun
 pub mod StepsAt
 pub mod ThroughParts
 pub mod ThroughExpr
+pub mod ThroughStmt
+pub mod Same

@@ -1,6 +1,5 @@
-use Rattle.porch_lower.proofs.ThroughParts.{second}
-use Rattle.porch_lower.proofs.ThroughExpr.{through}
+use Rattle.porch_lower.proofs.Same.{same}
 use Rattle.porch_lower.proofs.same_meaning.Goals as goal
 
 pub returns : goal.returns
-returns c = ?
+returns c = λ p ok. same p ok ?
