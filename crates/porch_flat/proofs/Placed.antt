@@ -21,3 +21,6 @@ place_more commands at n c h e =
     let t = take_more commands at c h in
     let m : length (take at commands) ≡ at = grind (arith, common_steps) in
     rw (t, ← e) (position_push (is_label n) (take at commands) c ∙ ap (λ k. first_place (place_of_label (take at commands) n) (is_label n c) k) m)
+
+pub place_within : (commands : List Command) (n to : ℕ) → place_of_label commands n ≡ Some to → to < length commands
+place_within commands n to h = grind (arith, common_steps, nat_tests, h)
