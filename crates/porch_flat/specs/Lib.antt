@@ -1,3 +1,4 @@
 pub mod Places
 pub mod Labelled
 pub mod Valid
+pub mod Checked

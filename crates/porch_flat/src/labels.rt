@@ -1,8 +1,8 @@
 //! Where the labels of a function stand.
 
-ghost use Rattle.std.specs.Prelude.{◌≡◌, ◌<◌, ◌^◌, ℕ, IfOk};
-ghost use Rattle.porch_flat.specs.Places.{place_of_label};
-ghost use Rattle.porch_flat.specs.Labelled.{place_in};
+ghost use Rattle.std.specs.Prelude.{◌≡◌, ◌==◌, ℕ, IfOk, OnOk};
+ghost use Rattle.porch_flat.specs.Places.{is_label, place_of_label};
+ghost use Rattle.porch_flat.specs.Labelled.{place_in, first_place};
 
 use crate::flat::Command;
 use indexmap::IndexMap;
@@ -25,10 +25,53 @@ impl Model for Labels {
 }
 
 impl Labels {
+    /// The places of the labels in a list of commands.
+    pub fn new(alloc: Global, commands: &[Command]) -> Result<Labels, AllocError>
+        ensures { IfOk result (λ labels. (n : ℕ) → place_in labels n ≡ place_of_label commands.now n) }
+    {
+        let mut places = IndexMap::new(alloc);
+        for (at, command) in commands.iter().enumerate() {
+            note(&mut places, at, command)?;
+        }
+        Ok(Labels { places })
+    }
+
     /// The place of the label of a number, if there is one. It takes no memory.
     pub fn place(&self, number: u32) -> Option<usize>
         ensures { result ≡ place_in self.now number }
     {
         self.places.get(&number).copied()
     }
+}
+
+// Takes note of a label, unless its number stood before.
+fn note(
+    places: &mut IndexMap<u32, usize>,
+    at: usize,
+    command: &Command,
+) -> Result<(), AllocError>
+    ensures { OnOk result ((n : ℕ) → place_in places.new.entries n ≡ first_place (place_in places.old.entries n) (is_label n command.now) at) }
+{
+    match command {
+        Command::Label(number) => put(places, *number, at),
+        Command::Move(_, _)
+        | Command::Add(_, _, _)
+        | Command::Sub(_, _, _)
+        | Command::Mul(_, _, _)
+        | Command::Lt(_, _, _)
+        | Command::Char(_, _)
+        | Command::Jump(_)
+        | Command::If(_, _)
+        | Command::Turn
+        | Command::Return(_) => Ok(()),
+    }
+}
+
+fn put(places: &mut IndexMap<u32, usize>, number: u32, at: usize) -> Result<(), AllocError>
+    ensures { OnOk result ((n : ℕ) → place_in places.new.entries n ≡ first_place (place_in places.old.entries n) (n == number) at) }
+{
+    if !places.contains_key(&number) {
+        places.insert(number, at)?;
+    }
+    Ok(())
 }

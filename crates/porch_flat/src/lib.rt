@@ -4,6 +4,7 @@
 //! `specs/Valid` says what the rules are.
 #![tactic(auto)]
 
+mod checks;
 pub mod flat;
 pub mod labels;
 pub mod valid;

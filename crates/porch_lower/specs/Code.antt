@@ -141,8 +141,10 @@ abbrev mutual
   temps_of (whole z) = 0
   temps_of (character c) = 0
   temps_of (nested e) = temps_of e
-  temps_of (product e es) = max (temps_of e) (factors_temps es) + 2
-  temps_of (sum e ts) = max (temps_of e) (terms_temps ts) + 2
+  temps_of (product e no_nodes) = temps_of e
+  temps_of (product e (node f fs)) = max (temps_of e) (max (temps_of f) (factors_temps fs)) + 2
+  temps_of (sum e no_terms) = temps_of e
+  temps_of (sum e (term s f ts)) = max (temps_of e) (max (temps_of f) (terms_temps ts)) + 2
   temps_of (less a b) = max (temps_of a) (temps_of b) + 2
 
   pub factors_temps : Nodes → ℕ
