@@ -5,4 +5,4 @@ pub mod StepsAt
 pub mod ThroughParts
 pub mod ThroughExpr
 pub mod ThroughStmt
-pub mod Same
+pub mod SameRun

@@ -1,4 +1,4 @@
-use Rattle.porch_lower.proofs.Same.{same}
+use Rattle.porch_lower.proofs.SameRun.{same}
 use Rattle.porch_lower.proofs.same_meaning.Goals as goal
 
 pub returns : goal.returns
