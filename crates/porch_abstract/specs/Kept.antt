@@ -12,6 +12,7 @@ use Rattle.porch_abstract.specs.declared.effects.Effect.{Effect}
 use Rattle.porch_abstract.specs.declared.effects.Effect.TheVariants.{On, Set, Show, Go, Count, End, Meet}
 use Rattle.porch_abstract.specs.declared.phase.Phase.{Phase}
 use Rattle.porch_abstract.specs.declared.phase.Phase.TheVariants.{Begun, Running, Over}
+use Rattle.porch_abstract.specs.declared.run.Run.{Run}
 use Rattle.porch_abstract.specs.declared.phase.AStep.{AStep}
 use Rattle.porch_abstract.specs.declared.phase.AStep.TheVariants as astep
 use Rattle.porch_abstract.specs.Machine.{Frame, State, Next, Goes, Ends, Meets, commands_of, vars_of, code_of}
@@ -68,23 +69,33 @@ abbrev pub is_running : Phase → Bool
 is_running Running = true
 is_running _ = false
 
--- the state that is kept
-abbrev pub state_of : Phase → List (Option ℤ) → ℕ → List ℕ → ℕ → State
-state_of phase vars next output turns =
+-- the state of so much that is kept
+abbrev pub state_in : Phase → List (Option ℤ) → ℕ → List ℕ → ℕ → State
+state_in phase vars next output turns =
     record { frames = frames_in phase next (length vars); objects = map (int_object (is_running phase)) vars; output = output; turns = turns }
 
+abbrev pub state_of : Run → State
+state_of run = state_in run.phase run.vars.items run.next run.output.items run.turns
+
 -- turn 1 was counted, unless the run has not begun, where there are no variables yet
-abbrev pub IsCounted : Phase → List (Option ℤ) → ℕ → Type 0
-IsCounted Begun vars turns = vars ≡ []
-IsCounted Running vars turns = 0 < turns
-IsCounted Over vars turns = 0 < turns
+abbrev pub IsCountedIn : Phase → List (Option ℤ) → ℕ → Type 0
+IsCountedIn Begun vars turns = vars ≡ []
+IsCountedIn Running vars turns = 0 < turns
+IsCountedIn Over vars turns = 0 < turns
+
+abbrev pub IsCounted : Run → Type 0
+IsCounted run = IsCountedIn run.phase run.vars.items run.turns
 
 -- what an effect leads to
 abbrev pub effected : List (Option ℤ) → ℕ → List ℕ → ℕ → Effect → Next
-effected vars next output turns On = Goes (state_of Running vars (next + 1) output turns)
-effected vars next output turns (Set v z) = Goes (state_of Running (slice_set vars v (Some z)) (next + 1) output turns)
-effected vars next output turns (Show v byte) = Goes (state_of Running (slice_set vars v (Some (pos 1))) (next + 1) (output ++ byte ∷ []) turns)
-effected vars next output turns (Go place) = Goes (state_of Running vars place output turns)
-effected vars next output turns Count = Goes (state_of Running vars (next + 1) output (turns + 1))
-effected vars next output turns (End z) = Ends z (state_of Over vars next output turns)
+effected vars next output turns On = Goes (state_in Running vars (next + 1) output turns)
+effected vars next output turns (Set v z) = Goes (state_in Running (slice_set vars v (Some z)) (next + 1) output turns)
+effected vars next output turns (Show v byte) = Goes (state_in Running (slice_set vars v (Some (pos 1))) (next + 1) (output ++ byte ∷ []) turns)
+effected vars next output turns (Go place) = Goes (state_in Running vars place output turns)
+effected vars next output turns Count = Goes (state_in Running vars (next + 1) output (turns + 1))
+effected vars next output turns (End z) = Ends z (state_in Over vars next output turns)
 effected vars next output turns (Meet a) = Meets a
+
+-- what an effect leads to, from what is kept
+abbrev pub led_to : Run → Effect → Next
+led_to run effect = effected run.vars.items run.next run.output.items run.turns effect

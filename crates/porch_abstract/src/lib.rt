@@ -12,6 +12,7 @@ ghost use Rattle.porch_abstract.specs.Run.{IsOneRun};
 mod effects;
 mod machine;
 mod phase;
+mod run;
 
 pub use machine::Abstract;
 pub use phase::AStep;

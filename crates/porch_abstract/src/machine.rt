@@ -7,6 +7,7 @@ ghost use Rattle.porch_abstract.specs.Kept.{Fits, Continues, Answers};
 
 use crate::effects::{Effect, compute};
 use crate::phase::{AStep, Phase};
+use crate::run::Run;
 use porch_flat::{Command, Function, Labels, Valid};
 use porch_values::Widths;
 use std::alloc::{AllocError, Global};
@@ -18,11 +19,7 @@ pub struct Abstract {
     alloc: Global,
     widths: Widths,
     labels: Labels,
-    phase: Phase,
-    vars: Vec<Option<i32>>,
-    next: usize,
-    output: Vec<u8>,
-    turns: u64,
+    run: Run,
 }
 
 impl Model for Abstract {
@@ -30,9 +27,9 @@ impl Model for Abstract {
 
     ghost Value = { Held };
 
-    ghost view = { λ a. record { widths = a.widths; state = state_of a.phase a.vars.items a.next a.output.items a.turns; labels = a.labels } };
+    ghost view = { λ a. record { widths = a.widths; state = state_of a.run; labels = a.labels } };
 
-    ghost invariant = { λ a. IsCounted a.phase a.vars.items a.turns };
+    ghost invariant = { λ a. IsCounted a.run };
 }
 
 impl Abstract {
@@ -47,11 +44,7 @@ impl Abstract {
             alloc,
             widths,
             labels,
-            phase: Phase::Begun,
-            vars: Vec::new(alloc),
-            next: 0,
-            output: Vec::new(alloc),
-            turns: 0,
+            run: Run::new(alloc),
         })
     }
 
@@ -59,13 +52,13 @@ impl Abstract {
     pub fn output(&self) -> &[u8]
         ensures { result.now ≡ self.now.state.output }
     {
-        self.output.as_slice()
+        self.run.output.as_slice()
     }
 
     /// The turns that were counted. It takes no memory.
     pub fn turns(&self) -> u64
         ensures { result ≡ self.now.state.turns }
     {
-        self.turns
+        self.run.turns
     }
 }
