@@ -1,1 +1,4 @@
 pub mod Ends
+pub mod Ints
+pub mod Stores
+pub mod Steps

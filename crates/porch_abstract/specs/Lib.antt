@@ -1,2 +1,4 @@
 pub mod Machine
 pub mod Run
+pub mod Effects
+pub mod Kept

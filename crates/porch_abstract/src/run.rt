@@ -1,0 +1,155 @@
+//! What is kept of a run, and how an effect changes it.
+
+ghost use Rattle.std.specs.Prelude.{◌≡◌, ◌<◌, ◌+◌, ◌^◌, ℕ, Some, IfOk, OnOk, OnErr, slice_set, replicate};
+ghost use Rattle.porch_abstract.specs.Run.{begin};
+
+use crate::effects::Effect;
+use crate::phase::{AStep, Phase};
+use std::alloc::{AllocError, Global};
+
+/// A run of `main`: its variables, the place of the next command, what was shown, and the turns.
+#[derive(Drop)]
+pub(crate) struct Run {
+    pub(crate) phase: Phase,
+    pub(crate) vars: Vec<Option<i32>>,
+    pub(crate) next: usize,
+    pub(crate) output: Vec<u8>,
+    pub(crate) turns: u64,
+}
+
+fn write(vars: &mut [Option<i32>], variable: u32, value: i32)
+    ensures { vars.new ≡ slice_set vars.old variable (Some value) }
+{
+    let at = variable as usize;
+    if at < vars.len() {
+        vars[at] = Some(value);
+    }
+}
+
+// So many variables without a value.
+fn unset(alloc: Global, count: usize) -> Result<Vec<Option<i32>>, AllocError>
+    ensures { IfOk result (λ vars. vars.items ≡ replicate count None) }
+{
+    vec![in alloc; None; count]
+}
+
+impl Run {
+    ghost use Rattle.porch_abstract.specs.Kept.{state_of, state_in, IsCounted, Answers, effected, led_to};
+    ghost use Rattle.porch_abstract.specs.Machine.{Goes};
+
+    /// Before turn 1.
+    pub(crate) fn new(alloc: Global) -> Run
+        ensures begins { state_of result ≡ begin }
+        ensures counted { IsCounted result }
+    {
+        Run {
+            phase: Phase::Begun,
+            vars: Vec::new(alloc),
+            next: 0,
+            output: Vec::new(alloc),
+            turns: 0,
+        }
+    }
+
+    /// Calls `main`, which has so many variables.
+    pub(crate) fn enter(&mut self, alloc: Global, count: usize) -> Result<AStep, AllocError>
+        requires { self.old.turns < 2 ^ 62 }
+        ensures went { Answers (Goes (state_in Phase.Running (replicate count None) 0 self.old.output.items (self.old.turns + 1))) (state_of self.old) (state_of self.new) result }
+        ensures counted { IsCounted self.old → IsCounted self.new }
+    {
+        self.vars = unset(alloc, count)?;
+        self.phase = Phase::Running;
+        self.next = 0;
+        self.turns += 1;
+        Ok(AStep::Went)
+    }
+
+    /// What an effect of the command at `next` leads to.
+    pub(crate) fn take(&mut self, effect: Effect) -> Result<AStep, AllocError>
+        requires running { self.old.phase ≡ Phase.Running }
+        requires begun { 0 < self.old.turns }
+        requires place { self.old.next + 1 < 2 ^ 64 }
+        requires turns { effect ≡ Effect.Count → self.old.turns < 2 ^ 62 }
+        ensures led { Answers (led_to self.old effect) (state_of self.old) (state_of self.new) result }
+        ensures counted { IsCounted self.new }
+    {
+        match effect {
+            Effect::On => Ok(self.on()),
+            Effect::Set(variable, value) => Ok(self.set(variable, value)),
+            Effect::Show(variable, byte) => self.show(variable, byte),
+            Effect::Go(place) => Ok(self.go(place)),
+            Effect::Count => Ok(self.count()),
+            Effect::End(value) => Ok(self.end(value)),
+            Effect::Meet(act) => Ok(AStep::Act { act }),
+        }
+    }
+
+    fn on(&mut self) -> AStep
+        requires running { self.old.phase ≡ Phase.Running }
+        requires begun { 0 < self.old.turns }
+        requires place { self.old.next + 1 < 2 ^ 64 }
+        ensures led { Answers (led_to self.old Effect.On) (state_of self.old) (state_of self.new) (Ok result) }
+        ensures counted { IsCounted self.new }
+    {
+        self.next += 1;
+        AStep::Went
+    }
+
+    fn set(&mut self, variable: u32, value: i32) -> AStep
+        requires running { self.old.phase ≡ Phase.Running }
+        requires begun { 0 < self.old.turns }
+        requires place { self.old.next + 1 < 2 ^ 64 }
+        ensures led { Answers (led_to self.old (Effect.Set variable value)) (state_of self.old) (state_of self.new) (Ok result) }
+        ensures counted { IsCounted self.new }
+    {
+        write(&mut self.vars, variable, value);
+        self.next += 1;
+        AStep::Went
+    }
+
+    fn show(&mut self, variable: u32, byte: u8) -> Result<AStep, AllocError>
+        requires running { self.old.phase ≡ Phase.Running }
+        requires begun { 0 < self.old.turns }
+        requires place { self.old.next + 1 < 2 ^ 64 }
+        ensures led { Answers (led_to self.old (Effect.Show variable byte)) (state_of self.old) (state_of self.new) result }
+        ensures counted { IsCounted self.new }
+    {
+        self.output.push(byte)?;
+        write(&mut self.vars, variable, 1);
+        self.next += 1;
+        Ok(AStep::Went)
+    }
+
+    fn go(&mut self, place: usize) -> AStep
+        requires running { self.old.phase ≡ Phase.Running }
+        requires begun { 0 < self.old.turns }
+        ensures led { Answers (led_to self.old (Effect.Go place)) (state_of self.old) (state_of self.new) (Ok result) }
+        ensures counted { IsCounted self.new }
+    {
+        self.next = place;
+        AStep::Went
+    }
+
+    fn count(&mut self) -> AStep
+        requires running { self.old.phase ≡ Phase.Running }
+        requires place { self.old.next + 1 < 2 ^ 64 }
+        requires turns { self.old.turns < 2 ^ 62 }
+        ensures led { Answers (led_to self.old Effect.Count) (state_of self.old) (state_of self.new) (Ok result) }
+        ensures counted { IsCounted self.new }
+    {
+        self.next += 1;
+        self.turns += 1;
+        AStep::Went
+    }
+
+    /// `main` returns this value.
+    pub(crate) fn end(&mut self, value: i32) -> AStep
+        requires running { self.old.phase ≡ Phase.Running }
+        requires begun { 0 < self.old.turns }
+        ensures led { Answers (led_to self.old (Effect.End value)) (state_of self.old) (state_of self.new) (Ok result) }
+        ensures counted { IsCounted self.new }
+    {
+        self.phase = Phase::Over;
+        AStep::Ended { value }
+    }
+}
