@@ -6,3 +6,4 @@ pub mod ByteRun
 pub mod Steps
 pub mod Laws
 pub mod Resolved
+pub mod Resolving

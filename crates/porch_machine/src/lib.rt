@@ -4,6 +4,7 @@
 mod code;
 mod ints;
 mod machine;
+mod resolving;
 pub mod step;
 
 pub use machine::Machine;
