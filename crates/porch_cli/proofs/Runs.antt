@@ -1,5 +1,5 @@
 -- Runs over bytes, step by step.
-use Rattle.std.proofs.Common.{◌≡◌, ◌≤◌, ◌<◌, ◌+◌, ◌++◌, ◌&&◌, ℕ, zero, suc, ℤ, List, [], ◌∷◌, Bool, true, false, refl, sym, ap, subst, ◌∙◌, arith, append_assoc}
+use Rattle.std.proofs.Common.{◌≡◌, ◌≤◌, ◌<◌, ◌+◌, ◌++◌, ◌&&◌, ℕ, zero, suc, ℤ, List, [], ◌∷◌, Bool, true, false, refl, sym, ap, subst, ◌∙◌, arith, append_assoc, add_comm}
 use Rattle.std.proofs.lemmas.List.{append-nil}
 use Rattle.std.proofs.lemmas.Bool.Decides.{nat_tests}
 use Rattle.std.specs.Prelude.{if◌then◌else◌, nat_le, nat_lt, slice_get, Result, Ok, Err}
@@ -166,3 +166,12 @@ module _ (flat : Flat) (on : Setting) (n : ℕ) where
   runs_over m m' h h' h'' f f' f'' (status.Refused r) le c a = absurd a
   runs_over m m' h h' h'' f f' f'' status.ReadFault le c a = absurd a
   runs_over m m' h h' h'' f f' f'' status.NoMemory le c a = absurd a
+
+  same_one : (a b : Option ByteRun) (r r' : ByteRun) → a ≡ b → a ≡ Some r → b ≡ Some r' → r ≡ r'
+  same_one a b r r' e p q = cc
+
+  -- a run has one end
+  pub same_run : (r r' : ByteRun) → RunsTo flat on n r → RunsTo flat on n r' → r ≡ r'
+  same_run r r' x y =
+      same_one (run_to flat on n (x.steps + y.steps) (prepared flat on) []) (run_to flat on n (y.steps + x.steps) (prepared flat on) []) r r' (ap (λ (k : ℕ). run_to flat on n k (prepared flat on) []) (add_comm x.steps y.steps))
+      (longer x.steps y.steps (prepared flat on) [] r x.ends) (longer y.steps x.steps (prepared flat on) [] r' y.ends)

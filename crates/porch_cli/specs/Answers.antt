@@ -1,5 +1,5 @@
 -- What each answer of the top call says.
-use Rattle.std.specs.Prelude.{ℕ, ◌≡◌, ◌≤◌, ◌<◌, ◌^◌, ◌⊎◌, List, [], ◌++◌, length, true, false, ⊤, Result, IsErrOf, refl}
+use Rattle.std.specs.Prelude.{ℕ, ◌≡◌, ◌≤◌, ◌<◌, ◌^◌, ◌⊎◌, List, [], ◌++◌, length, true, false, ⊤, Result, Ok, Err, IsErrOf, refl}
 use Rattle.std.specs.Prelude.{map, String, string_bytes}
 use Rattle.std.specs.Global.{Global}
 use Rattle.std.specs.declared.option.Option.{Option}
@@ -29,7 +29,8 @@ use Rattle.porch_cli.specs.declared.status.Status.{Status}
 use Rattle.porch_cli.specs.declared.status.Status.TheVariants as status
 use Rattle.porch_cli.specs.Words.{IsExec}
 use Rattle.porch_cli.specs.Lines.{line_of}
-use Rattle.porch_cli.specs.Running.{run_by, RanBytes, RanPartly}
+use Rattle.std.specs.declared.alloc.AllocError.{AllocError}
+use Rattle.porch_cli.specs.Running.{run_by, RanBytes, RanPartly, RunsFlat}
 
 -- what exec runs a program on: the layout le64, a stack of 1,048,576 bytes and a heap of 8,388,608
 abbrev pub exec_setting : Setting
@@ -69,13 +70,17 @@ pub record IsCompiled (p : Program) (flat : Flat) : Type 0 where
 
 -- A program was compiled and run over bytes to this end within a budget, and all of its output was written. Unless the
 -- program's meaning meets an undefined act by then, end, turns and output are the meaning's.
-pub record RanText (text : List ℕ) (budget : ℕ) (out out' : Option (List ℕ)) (ending : ByteEnd) (turns : ℕ) : Type 0 where
-  pub program : Program
-  pub source : IsProgram text program
+pub record RanProgram (program : Program) (budget : ℕ) (out out' : Option (List ℕ)) (ending : ByteEnd) (turns : ℕ) : Type 0 where
   pub flat : Flat
   pub compiled : IsCompiled program flat
   pub ran : RanBytes flat exec_setting budget out out' ending turns
   pub agrees : EndAgrees (meaning_in program budget) (run_by ending turns ran.output) ending
+
+-- The text is a program, which was run so.
+pub record RanText (text : List ℕ) (budget : ℕ) (out out' : Option (List ℕ)) (ending : ByteEnd) (turns : ℕ) : Type 0 where
+  pub program : Program
+  pub source : IsProgram text program
+  pub ran : RanProgram program budget out out' ending turns
 
 -- The words order a run within a budget, and the program was run so.
 pub record Ran (words : List (List ℕ)) (text : List ℕ) (out out' : Option (List ℕ)) (ending : ByteEnd) (turns : ℕ) : Type 0 where
@@ -84,12 +89,16 @@ pub record Ran (words : List (List ℕ)) (text : List ℕ) (out out' : Option (L
   pub ran : RanText text budget out out' ending turns
 
 -- A program was compiled, and a beginning of the output of its run was written.
+pub record RanProgramPartly (program : Program) (budget : ℕ) (out out' : Option (List ℕ)) : Type 0 where
+  pub flat : Flat
+  pub compiled : IsCompiled program flat
+  pub part : (r : ByteRun) → RunsTo flat exec_setting budget r → GrewByPrefix out out' r.output
+  pub agrees : (r : ByteRun) → RunsTo flat exec_setting budget r → EndAgrees (meaning_in program budget) r r.ending
+
 pub record RanTextPartly (text : List ℕ) (budget : ℕ) (out out' : Option (List ℕ)) : Type 0 where
   pub program : Program
   pub source : IsProgram text program
-  pub flat : Flat
-  pub compiled : IsCompiled program flat
-  pub part : (r : ByteRun) → RunsTo flat exec_setting budget r → GrewByPrefix out out' r.output × EndAgrees (meaning_in program budget) r r.ending
+  pub ran : RanProgramPartly program budget out out'
 
 -- They do, and a beginning of the program's output was written.
 pub record RanInto (words : List (List ℕ)) (text : List ℕ) (out out' : Option (List ℕ)) : Type 0 where
@@ -149,6 +158,24 @@ RunsText text budget out out' faults faults' (status.Refused r) = ((p : Program)
 RunsText text budget out out' faults faults' status.WriteFault = Rose faults faults' × RanTextPartly text budget out out'
 RunsText text budget out out' faults faults' status.NoMemory = Grew out out' []
 RunsText text budget out out' faults faults' _ = ⊥
+
+-- The same of a tree, and of a flat program. Contracts inside this crate cite them.
+abbrev pub RunsTree : Program → ℕ → Option (List ℕ) → Option (List ℕ) → ℕ → ℕ → Status → Type 0
+RunsTree p budget out out' faults faults' (status.Done value turns) = RanProgram p budget out out' (Ended value) turns
+RunsTree p budget out out' faults faults' (status.Trap a turns) = RanProgram p budget out out' (Trap a) turns
+RunsTree p budget out out' faults faults' (status.Paused turns) = RanProgram p budget out out' Paused turns
+RunsTree p budget out out' faults faults' (status.StackFull asked left) = (turns : ℕ) × RanProgram p budget out out' (StackFull asked left) turns
+RunsTree p budget out out' faults faults' status.WriteFault = Rose faults faults' × RanProgramPartly p budget out out'
+RunsTree p budget out out' faults faults' status.NoMemory = Grew out out' []
+RunsTree p budget out out' faults faults' _ = ⊥
+
+abbrev pub RunsProgram : Flat → ℕ → Option (List ℕ) → Option (List ℕ) → ℕ → ℕ → Status → Type 0
+RunsProgram flat budget out out' faults faults' status.NoMemory = Grew out out' []
+RunsProgram flat budget out out' faults faults' s = RunsFlat flat exec_setting budget out out' faults faults' s
+
+abbrev pub IsCompiledFor : Program → Result Flat AllocError → Type 0
+IsCompiledFor p (Ok flat) = IsCompiled p flat
+IsCompiledFor p (Err e) = ⊤
 
 abbrev pub refused_for : SourceFault → Status
 refused_for (Refused r) = status.Refused r
