@@ -94,3 +94,8 @@ module _ (vars : List (Option ℤ)) (labels : List (ℕ × ℕ)) (count : ℕ) (
   effect_of (command.If o n) = branched (operand_in vars o) (place_of labels count n)
   effect_of command.Turn = Count
   effect_of (command.Return value) = returned vars value
+
+  -- behind the last command main returns without a value
+  abbrev pub effect_at : Option Command → Effect
+  effect_at None = End (pos 0)
+  effect_at (Some c) = effect_of c

@@ -30,11 +30,15 @@ pub record IsFrame (flat : Flat) (frame : Frame) : Type 0 where
   pub command : frame.next ≤ length (code_of flat frame)
   pub objects : length frame.objects ≡ length (vars_of (slice_get flat.functions frame.function))
 
+-- none, or that of the program's only function
+abbrev pub AreFrames : Flat → List Frame → Type 0
+AreFrames flat [] = ⊤
+AreFrames flat (frame ∷ callers) = IsFrame flat frame × (frame.function ≡ 0) × (callers ≡ [])
+
 -- an abstract machine was made for this program, or for an equal one
 pub record Fits (flat : Flat) (held : Held) : Type 0 where
   pub labels : (n : ℕ) → place_in held.labels n ≡ place_of_label (commands_of (slice_get flat.functions 0)) n
-  pub frames : (frame : Frame) (callers : List Frame) → held.state.frames ≡ frame ∷ callers → IsFrame flat frame
-  pub outermost : (frame : Frame) (callers : List Frame) → held.state.frames ≡ frame ∷ callers → (frame.function ≡ 0) × (callers ≡ [])
+  pub frames : AreFrames flat held.state.frames
 
 -- It hasn't ended: a state without frames is before turn 1.
 abbrev pub Continues : State → Type 0
