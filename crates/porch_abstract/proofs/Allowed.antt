@@ -1,9 +1,9 @@
 -- What the effect of a command may be.
-use Rattle.std.proofs.Common.{◌≡◌, ◌≤◌, ◌<◌, ◌+◌, ℕ, ℤ, pos, Bool, true, false, List, length, ap, arith, refl, sym, ◌∙◌, rules}
+use Rattle.std.proofs.Common.{◌≡◌, ◌≤◌, ◌<◌, ℕ, ℤ, pos, Bool, true, false, List, length, arith, refl, rules}
 use Rattle.std.proofs.lemmas.Grind.{common_steps}
 use Rattle.std.proofs.lemmas.Bool.Decides.{nat_tests}
 use Rattle.std.proofs.lemmas.Option.{slice_get_within}
-use Rattle.std.specs.Prelude.{IsTrue, slice_get, unwrap_or, if◌then◌else◌, Some, None, Result, Ok, Err, ⊤}
+use Rattle.std.specs.Prelude.{IsTrue, slice_get, if◌then◌else◌, Some, None, Result, Ok, Err, ⊤}
 use Rattle.std.specs.Ordering.{int_eq}
 use Rattle.std.specs.declared.option.Option.{Option}
 use Rattle.porch_types.specs.declared.shapes.Kind.TheVariants.{Int}
@@ -12,7 +12,6 @@ use Rattle.porch_values.specs.declared.acts.Op.{Op}
 use Rattle.porch_values.specs.declared.acts.Op.TheVariants.{Add, Sub, Mul}
 use Rattle.porch_values.specs.declared.widths.Widths.{Widths}
 use Rattle.porch_values.specs.Integers.{applied}
-use Rattle.porch_objects.specs.Meaning.{truth, byte_of}
 use Rattle.porch_flat.specs.declared.flat.Operand.{Operand}
 use Rattle.porch_flat.specs.declared.flat.Operand.TheVariants.{Var, Constant}
 use Rattle.porch_flat.specs.declared.flat.Command.{Command}

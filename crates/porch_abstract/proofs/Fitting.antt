@@ -1,5 +1,5 @@
 -- A step keeps what a machine was made for.
-use Rattle.std.proofs.Common.{◌≡◌, ◌≤◌, ◌<◌, ◌+◌, ℕ, suc, ℤ, Bool, true, false, List, [], ◌∷◌, length, map, sym, ◌∙◌, ap, arith, refl, subst, IsTrue}
+use Rattle.std.proofs.Common.{◌≡◌, ◌≤◌, ◌<◌, ◌+◌, ℕ, ℤ, List, [], ◌∷◌, length, sym, ◌∙◌, ap, arith, refl, subst}
 use Rattle.std.proofs.Math.ListN.{set}
 use Rattle.std.proofs.lemmas.List.{length-set, length-replicate}
 use Rattle.std.proofs.lemmas.List.FromFn.{length-range_with_len}
@@ -21,7 +21,7 @@ use Rattle.porch_abstract.specs.declared.phase.AStep.{AStep}
 use Rattle.porch_abstract.specs.declared.phase.AStep.TheVariants as astep
 use Rattle.porch_abstract.specs.declared.phase.Phase.{Phase}
 use Rattle.porch_abstract.specs.declared.phase.Phase.TheVariants.{Begun, Running, Over}
-use Rattle.porch_abstract.specs.Machine.{Frame, State, Next, Goes, Ends, Meets, next, commands_of, vars_of}
+use Rattle.porch_abstract.specs.Machine.{State, Next, Goes, Ends, Meets, next, commands_of, vars_of}
 use Rattle.porch_abstract.specs.Effects.{effect_of, effect_at}
 use Rattle.porch_abstract.specs.Kept.{IsFrame, AreFrames, Answers, main_frame, state_in, state_of, effected, led_to, IsCounted}
 use Rattle.porch_abstract.proofs.Steps.{IsInts, main_commands, main_vars, labels_of_main, begun_next, running_next}

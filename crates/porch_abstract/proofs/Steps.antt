@@ -1,14 +1,12 @@
 -- What a command does to the state that is kept is what the abstract machine does.
-use Rattle.std.proofs.Common.{◌≡◌, ◌≤◌, ◌<◌, ◌+◌, ℕ, zero, suc, ℤ, pos, Bool, true, false, List, [], ◌∷◌, ◌++◌, map, length, inl, inr, sym, ◌∙◌, ap, arith, refl, subst}
-use Rattle.std.proofs.Math.ListN.{set, get_or}
+use Rattle.std.proofs.Common.{◌≡◌, ◌+◌, ℕ, suc, ℤ, pos, Bool, true, false, List, [], ◌∷◌, map, length, inl, inr, sym, ◌∙◌, ap, arith, refl}
+use Rattle.std.proofs.Math.ListN.{get_or}
 use Rattle.std.proofs.lemmas.Bool.{cases_lt}
 use Rattle.std.proofs.lemmas.List.{length-set, length-map, length-replicate, get_or_past}
-use Rattle.std.proofs.lemmas.Option.{slice_get_cases, slice_get_past}
 use Rattle.std.specs.Prelude.{slice_get, slice_index_or, unwrap_or, if◌then◌else◌, Some, None, Result, Ok, Err, All, replicate, position, nat_lt, not}
 use Rattle.std.specs.Ordering.{int_eq}
 use Rattle.std.specs.declared.option.Option.{Option}
 use Rattle.std.specs.List.{range_with_len}
-use Rattle.porch_types.specs.declared.shapes.Kind.{Kind}
 use Rattle.porch_types.specs.declared.shapes.Kind.TheVariants.{Int}
 use Rattle.porch_types.specs.Leaves.{kind_types}
 use Rattle.porch_values.specs.declared.acts.Act.{Act}
@@ -28,10 +26,10 @@ use Rattle.porch_flat.specs.Labelled.{place_in}
 use Rattle.porch_flat.specs.Places.{place_of_label, is_main, main_of}
 use Rattle.porch_flat.specs.Valid.{IsValid, IsMain, int_type}
 use Rattle.porch_abstract.specs.declared.effects.Effect.{Effect}
-use Rattle.porch_abstract.specs.declared.effects.Effect.TheVariants.{On, Set, Show, Go, Count, End, Meet}
+use Rattle.porch_abstract.specs.declared.effects.Effect.TheVariants.{On, Set, Show, Go, End}
 use Rattle.porch_abstract.specs.declared.phase.Phase.{Phase}
 use Rattle.porch_abstract.specs.declared.phase.Phase.TheVariants.{Begun, Running, Over}
-use Rattle.porch_abstract.specs.Machine.{Frame, State, Next, Goes, Ends, Meets, next, after, put, operand_of, determined, counted, resulted, onward, at_label, kind_in, kind_of, vars_of, commands_of, operated, shown, returned, entered}
+use Rattle.porch_abstract.specs.Machine.{Frame, State, Next, Goes, next, after, put, operand_of, determined, counted, resulted, onward, at_label, kind_in, kind_of, vars_of, commands_of, operated, shown, returned, entered}
 use Rattle.porch_abstract.specs.Effects as effects
 use Rattle.porch_abstract.specs.Effects.{given, operand_in, effect_of, effect_at, place_of, set_to}
 use Rattle.porch_abstract.specs.Kept.{value_of, int_object, main_frame, state_in, effected, IsCountedIn}
@@ -184,7 +182,7 @@ entered_main : (flat : Flat) (w : Widths) (main : Function) (is : IsInts flat ma
 entered_main flat w main is at output turns =
     rw (main_vars flat main is, is.types)
     (ap (λ (n : ℕ). entered_by (range_with_len 0 n) (map (fresh kind_types) (map (λ (ty : ℕ). let root : Root = record { ty = ty; count = 1 } in root) main.vars)) output (turns + 1))
-      (length-map main.vars (λ (ty : ℕ). let root : Root = record { ty = ty; count = 1 } in root) ∙ sym (length-replicate {A = Option ℤ} (length main.vars) None))
+    (length-map main.vars (λ (ty : ℕ). let root : Root = record { ty = ty; count = 1 } in root) ∙ sym (length-replicate {A = Option ℤ} (length main.vars) None))
     ∙ ap (λ (os : List Object). entered_by (range_with_len 0 (length (unset (length main.vars)))) os output (turns + 1)) (fresh_vars main.vars is.ints))
 
 -- the first step
@@ -192,6 +190,6 @@ pub begun_next : (flat : Flat) (w : Widths) (main : Function) (is : IsInts flat 
     → IsCountedIn phase vars turns → next flat w (state_in phase vars at output turns) ≡ Goes (state_in Running (replicate (length main.vars) None) 0 output (turns + 1))
 begun_next flat w main is Begun vars at output turns h none =
     rw none (ap (λ (n : ℕ). Goes (entered flat w n None (state_in Begun [] at output turns))) (main_place flat main is)
-      ∙ ap (λ (s : State). Goes s) (entered_main flat w main is at output turns))
+    ∙ ap (λ (s : State). Goes s) (entered_main flat w main is at output turns))
 begun_next flat w main is Running vars at output turns h none = cc
 begun_next flat w main is Over vars at output turns h none = cc

@@ -71,7 +71,10 @@ impl Abstract {
     {
         match self.run.phase {
             Phase::Begun | Phase::Over => true,
-            Phase::Running => is_turn(command_at(program.main().commands.as_slice(), self.run.next)),
+            Phase::Running => is_turn(command_at(
+                program.main().commands.as_slice(),
+                self.run.next,
+            )),
         }
     }
 

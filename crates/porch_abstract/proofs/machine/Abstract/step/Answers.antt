@@ -42,5 +42,5 @@ returns-in-Running-clause-fits c =
     record {
       labels = fits.labels;
       frames = running_frames c.args.program.now c.self.inside.widths c.main-in-Running.result.now is c.self.inside.labels fits.labels c.self.inside.run c.proceed.new.self c.proceed.result c.in-Running.is fits.frames
-        c.proceed.ensures.led;
+          c.proceed.ensures.led;
     }
