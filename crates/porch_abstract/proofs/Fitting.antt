@@ -23,7 +23,8 @@ use Rattle.porch_abstract.specs.declared.phase.Phase.{Phase}
 use Rattle.porch_abstract.specs.declared.phase.Phase.TheVariants.{Begun, Running, Over}
 use Rattle.porch_abstract.specs.Machine.{State, Next, Goes, Ends, Meets, next, commands_of, vars_of}
 use Rattle.porch_abstract.specs.Effects.{effect_of, effect_at}
-use Rattle.porch_abstract.specs.Kept.{IsFrame, AreFrames, Answers, main_frame, state_in, state_of, effected, led_to, IsCounted}
+use Rattle.porch_abstract.specs.Held.{IsFrame, AreFrames, Answers}
+use Rattle.porch_abstract.specs.Kept.{main_frame, state_in, state_of, effected, led_to, IsCounted}
 use Rattle.porch_abstract.proofs.Steps.{IsInts, main_commands, main_vars, labels_of_main, begun_next, running_next}
 use Rattle.porch_abstract.proofs.Allowed.{IsAllowed, allowed}
 

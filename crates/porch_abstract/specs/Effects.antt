@@ -1,4 +1,5 @@
--- What a command does where all variables are ints, computed from their values.
+-- What a command does where all variables are ints, computed from their values. Only private contracts cite it; that it
+-- is what the machine does is proved.
 use Rattle.std.specs.Prelude.{ℕ, ℤ, pos, IsTrue, List, slice_get, unwrap_or, if◌then◌else◌, Option, Some, None, Result, Ok, Err, ⊤}
 use Rattle.std.specs.Ordering.{int_eq}
 use Rattle.porch_types.specs.declared.shapes.Kind.TheVariants.{Int}

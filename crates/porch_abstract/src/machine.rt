@@ -3,7 +3,7 @@
 ghost use Rattle.std.specs.Prelude.{◌≡◌, ◌<◌, ◌^◌, IsTrue, IfOk};
 ghost use Rattle.porch_abstract.specs.Machine.{next};
 ghost use Rattle.porch_abstract.specs.Run.{begin, counts_next};
-ghost use Rattle.porch_abstract.specs.Kept.{Fits, Continues, Answers};
+ghost use Rattle.porch_abstract.specs.Held.{Fits, Continues, Answers};
 
 use crate::phase::{AStep, Phase};
 use crate::run::{Run, command_at, is_turn};
@@ -22,7 +22,8 @@ pub struct Abstract {
 }
 
 impl Model for Abstract {
-    ghost use Rattle.porch_abstract.specs.Kept.{Held, state_of, IsCounted};
+    ghost use Rattle.porch_abstract.specs.Held.{Held};
+    ghost use Rattle.porch_abstract.specs.Kept.{state_of, IsCounted};
 
     ghost Value = { Held };
 
