@@ -1,5 +1,5 @@
 -- Ints, in each width of long.
-use Rattle.std.proofs.Common.{◌≡◌, ℤ, Bool, true, false, not, ◌&&◌, ◌||◌, IsTrue, refl}
+use Rattle.std.proofs.Common.{ℤ, Bool, true, false, not, ◌&&◌, ◌||◌, IsTrue, refl}
 use Rattle.porch_types.specs.declared.shapes.Kind.TheVariants.{Int}
 use Rattle.porch_values.specs.declared.widths.Widths.{Widths}
 use Rattle.porch_values.specs.Integers.{in_range, is_value_of}

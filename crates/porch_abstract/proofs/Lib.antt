@@ -2,3 +2,5 @@ pub mod Ends
 pub mod Ints
 pub mod Stores
 pub mod Steps
+pub mod Allowed
+pub mod Fitting

@@ -1,5 +1,5 @@
 -- The variables as objects of a store.
-use Rattle.std.proofs.Common.{◌≡◌, ◌≤◌, ◌<◌, ◌+◌, ℕ, zero, suc, ℤ, List, [], ◌∷◌, ◌++◌, map, length, inl, inr, sym, ◌∙◌, ap, arith, refl, append_assoc, add-one}
+use Rattle.std.proofs.Common.{◌≡◌, ◌≤◌, ◌<◌, ◌+◌, ℕ, ℤ, List, [], ◌∷◌, ◌++◌, map, length, inl, inr, sym, ◌∙◌, ap, arith, refl, append_assoc}
 use Rattle.std.proofs.Math.ListN.{set, get_or}
 use Rattle.std.proofs.Math.Seq.{set_out, set-append_seam}
 use Rattle.std.proofs.lemmas.List.{map-set, length-map, get_or_past}
@@ -8,7 +8,7 @@ use Rattle.std.proofs.lemmas.Option.{slice_get-map, slice_get_past, slice_get_ca
 use Rattle.std.specs.Prelude.{slice_get, slice_index_or, Some, None, true, false}
 use Rattle.std.specs.declared.option.Option.{Option}
 use Rattle.std.specs.List.{range_with_len}
-use Rattle.porch_objects.specs.Store.{Value, number, indeterminate, Object, leaf_at, seen, stored, changed, with_leaf, ended, all_ended}
+use Rattle.porch_objects.specs.Store.{Value, number, Object, leaf_at, seen, stored, changed, with_leaf, ended, all_ended}
 use Rattle.porch_abstract.specs.Effects.{held}
 use Rattle.porch_abstract.specs.Kept.{value_of, int_object}
 
@@ -73,7 +73,7 @@ all_ended_from : (vars : List (Option ℤ)) (front : List Object) (k : ℕ) → 
 all_ended_from [] front k h = refl
 all_ended_from (x ∷ vars) front k h =
     let here : ended (front ++ objects_of (x ∷ vars)) k ≡ (front ++ int_object false x ∷ []) ++ objects_of vars =
-      rw h (ended_seam front x (objects_of vars)) ∙ sym (append_assoc front (int_object false x ∷ []) (objects_of vars)) in
+    rw h (ended_seam front x (objects_of vars)) ∙ sym (append_assoc front (int_object false x ∷ []) (objects_of vars)) in
     ap (λ (os : List Object). all_ended os (range_with_len (k + 1) (length vars))) here
     ∙ (all_ended_from vars (front ++ int_object false x ∷ []) (k + 1) (ap (λ n. n + 1) h ∙ sym (length_one_more front (int_object false x))) ∙ append_assoc front (int_object false x ∷ []) (map (int_object false) vars))
 

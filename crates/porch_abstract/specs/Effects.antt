@@ -1,4 +1,5 @@
--- What a command does where all variables are ints, computed from their values.
+-- What a command does where all variables are ints, computed from their values. Only private contracts cite it; that it
+-- is what the machine does is proved.
 use Rattle.std.specs.Prelude.{ℕ, ℤ, pos, IsTrue, List, slice_get, unwrap_or, if◌then◌else◌, Option, Some, None, Result, Ok, Err, ⊤}
 use Rattle.std.specs.Ordering.{int_eq}
 use Rattle.porch_types.specs.declared.shapes.Kind.TheVariants.{Int}
@@ -94,3 +95,8 @@ module _ (vars : List (Option ℤ)) (labels : List (ℕ × ℕ)) (count : ℕ) (
   effect_of (command.If o n) = branched (operand_in vars o) (place_of labels count n)
   effect_of command.Turn = Count
   effect_of (command.Return value) = returned vars value
+
+  -- behind the last command main returns without a value
+  abbrev pub effect_at : Option Command → Effect
+  effect_at None = End (pos 0)
+  effect_at (Some c) = effect_of c

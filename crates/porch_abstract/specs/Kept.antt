@@ -1,51 +1,14 @@
--- How a run of a valid program is kept, and which state it stands for: one frame, of ints.
-use Rattle.std.specs.Prelude.{ℕ, ◌≡◌, ◌<◌, ◌≤◌, ◌+◌, ℤ, pos, Bool, true, false, List, [], ◌∷◌, ◌++◌, length, map, slice_get, slice_set, All, Option, Some, None, Result, Ok, Err, ⊤}
+-- How a run of a valid program is kept, and which state it stands for: one frame, of ints. Only private contracts cite it.
+use Rattle.std.specs.Prelude.{ℕ, ◌≡◌, ◌<◌, ◌+◌, ℤ, pos, Bool, true, false, List, [], ◌∷◌, ◌++◌, length, map, slice_set, Option, Some, None}
 use Rattle.std.specs.List.{range_with_len}
-use Rattle.std.specs.declared.alloc.AllocError.{AllocError}
-use Rattle.porch_values.specs.declared.widths.Widths.{Widths}
-use Rattle.porch_objects.specs.Store.{Value, number, indeterminate, Root, Object}
-use Rattle.porch_flat.specs.declared.flat.Flat.{Flat}
-use Rattle.porch_flat.specs.Labelled.{place_in}
-use Rattle.porch_flat.specs.Places.{place_of_label}
+use Rattle.porch_objects.specs.Store.{Value, number, indeterminate, Object}
 use Rattle.porch_flat.specs.Valid.{int_type}
 use Rattle.porch_abstract.specs.declared.effects.Effect.{Effect}
 use Rattle.porch_abstract.specs.declared.effects.Effect.TheVariants.{On, Set, Show, Go, Count, End, Meet}
 use Rattle.porch_abstract.specs.declared.phase.Phase.{Phase}
 use Rattle.porch_abstract.specs.declared.phase.Phase.TheVariants.{Begun, Running, Over}
 use Rattle.porch_abstract.specs.declared.run.Run.{Run}
-use Rattle.porch_abstract.specs.declared.phase.AStep.{AStep}
-use Rattle.porch_abstract.specs.declared.phase.AStep.TheVariants as astep
-use Rattle.porch_abstract.specs.Machine.{Frame, State, Next, Goes, Ends, Meets, commands_of, vars_of, code_of}
-
--- what contracts see of an abstract machine: the widths that it was made for, its state, and the places of the labels of
--- the program that it was made for
-pub record Held : Type 0 where
-  pub widths : Widths
-  pub state : State
-  pub labels : List (ℕ × ℕ)
-
--- a frame names a function and a command of the program, and has an object for each variable
-pub record IsFrame (flat : Flat) (frame : Frame) : Type 0 where
-  pub function : frame.function < length flat.functions
-  pub command : frame.next ≤ length (code_of flat frame)
-  pub objects : length frame.objects ≡ length (vars_of (slice_get flat.functions frame.function))
-
--- an abstract machine was made for this program, or for an equal one
-pub record Fits (flat : Flat) (held : Held) : Type 0 where
-  pub labels : (n : ℕ) → place_in held.labels n ≡ place_of_label (commands_of (slice_get flat.functions 0)) n
-  pub frames : (frame : Frame) (callers : List Frame) → held.state.frames ≡ frame ∷ callers → IsFrame flat frame
-  pub outermost : (frame : Frame) (callers : List Frame) → held.state.frames ≡ frame ∷ callers → (frame.function ≡ 0) × (callers ≡ [])
-
--- It hasn't ended: a state without frames is before turn 1.
-abbrev pub Continues : State → Type 0
-Continues s = s.frames ≡ [] → s.turns ≡ 0
-
--- what a step answers: of a refusal, nothing but that the state is the same
-abbrev pub Answers : Next → State → State → Result AStep AllocError → Type 0
-Answers next old new (Ok astep.Went) = next ≡ Goes new
-Answers next old new (Ok (astep.Ended z)) = next ≡ Ends z new
-Answers next old new (Ok (astep.Act a)) = (next ≡ Meets a) × (new ≡ old)
-Answers next old new (Err e) = new ≡ old
+use Rattle.porch_abstract.specs.Machine.{Frame, State, Next, Goes, Ends, Meets}
 
 -- the value of a variable
 abbrev pub value_of : Option ℤ → Value

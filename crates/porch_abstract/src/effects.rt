@@ -74,13 +74,7 @@ fn computed(op: Op, left: i32, right: i32, widths: Widths) -> Result<i32, Act>
     }
 }
 
-fn operated(
-    op: Op,
-    variable: u32,
-    left: Option<i32>,
-    right: Option<i32>,
-    widths: Widths,
-) -> Effect
+fn operated(op: Op, variable: u32, left: Option<i32>, right: Option<i32>, widths: Widths) -> Effect
     ensures { result ≡ operated op widths variable left right }
 {
     match left {
@@ -182,9 +176,27 @@ pub(crate) fn compute(
 {
     match command {
         Command::Move(variable, a) => moved(variable, operand(vars, a)),
-        Command::Add(variable, a, b) => operated(Op::Add, variable, operand(vars, a), operand(vars, b), widths),
-        Command::Sub(variable, a, b) => operated(Op::Sub, variable, operand(vars, a), operand(vars, b), widths),
-        Command::Mul(variable, a, b) => operated(Op::Mul, variable, operand(vars, a), operand(vars, b), widths),
+        Command::Add(variable, a, b) => operated(
+            Op::Add,
+            variable,
+            operand(vars, a),
+            operand(vars, b),
+            widths,
+        ),
+        Command::Sub(variable, a, b) => operated(
+            Op::Sub,
+            variable,
+            operand(vars, a),
+            operand(vars, b),
+            widths,
+        ),
+        Command::Mul(variable, a, b) => operated(
+            Op::Mul,
+            variable,
+            operand(vars, a),
+            operand(vars, b),
+            widths,
+        ),
         Command::Lt(variable, a, b) => compared(variable, operand(vars, a), operand(vars, b)),
         Command::Char(variable, a) => shown(variable, operand(vars, a)),
         Command::Label(_) => Effect::On,

@@ -1,7 +1,7 @@
 //! The flat abstract machine: a flat program over objects, without bytes.
 //!
 //! `specs/Machine` says what a command does, `specs/Run` what a run is and what a program means. [`Abstract`] takes the
-//! steps; `specs/Kept` says which state it stands for.
+//! steps; `specs/Held` says what contracts see of it.
 #![tactic(auto)]
 
 ghost use Rattle.std.specs.Prelude.{ℕ};

@@ -1,10 +1,12 @@
 //! What is kept of a run, and how an effect changes it.
 
-ghost use Rattle.std.specs.Prelude.{◌≡◌, ◌<◌, ◌+◌, ◌^◌, ℕ, Some, IfOk, OnOk, OnErr, slice_set, replicate};
-ghost use Rattle.porch_abstract.specs.Run.{begin};
+ghost use Rattle.std.specs.Prelude.{◌≡◌, ◌<◌, ◌+◌, ◌^◌, ℕ, Some, IfOk, OnOk, OnErr, slice_get, slice_set, length, replicate, IsTrue};
+ghost use Rattle.porch_abstract.specs.Run.{begin, counts};
 
-use crate::effects::Effect;
+use crate::effects::{Effect, compute};
 use crate::phase::{AStep, Phase};
+use porch_flat::{Command, Function, Labels};
+use porch_values::Widths;
 use std::alloc::{AllocError, Global};
 
 /// A run of `main`: its variables, the place of the next command, what was shown, and the turns.
@@ -15,6 +17,22 @@ pub(crate) struct Run {
     pub(crate) next: usize,
     pub(crate) output: Vec<u8>,
     pub(crate) turns: u64,
+}
+
+pub(crate) fn command_at(commands: &[Command], place: usize) -> Option<Command>
+    ensures { result ≡ slice_get commands.now place }
+{
+    commands.get(place).copied()
+}
+
+pub(crate) fn is_turn(command: Option<Command>) -> bool
+    ensures { result ≡ counts command }
+{
+    match command {
+        Some(Command::Turn) => true,
+        Some(_) => false,
+        None => false,
+    }
 }
 
 fn write(vars: &mut [Option<i32>], variable: u32, value: i32)
@@ -34,8 +52,13 @@ fn unset(alloc: Global, count: usize) -> Result<Vec<Option<i32>>, AllocError>
 }
 
 impl Run {
-    ghost use Rattle.porch_abstract.specs.Kept.{state_of, state_in, IsCounted, Answers, effected, led_to};
+    ghost use Rattle.porch_abstract.specs.Kept.{state_of, state_in, IsCounted, led_to};
+    ghost use Rattle.porch_abstract.specs.Held.{Answers};
+    ghost use Rattle.porch_abstract.specs.Effects.{effect_at};
     ghost use Rattle.porch_abstract.specs.Machine.{Goes};
+    ghost use Rattle.porch_flat.specs.Labelled.{place_in};
+    ghost use Rattle.porch_flat.specs.Places.{place_of_label};
+    ghost use Rattle.porch_flat.specs.Valid.{IsMain};
 
     /// Before turn 1.
     pub(crate) fn new(alloc: Global) -> Run
@@ -62,6 +85,32 @@ impl Run {
         self.next = 0;
         self.turns += 1;
         Ok(AStep::Went)
+    }
+
+    /// The next command of `main`, and behind the last its end.
+    #[tactic(auto, using(crate::proofs::Allowed::main_ints, crate::proofs::Allowed::place_behind, crate::proofs::Allowed::counted_turn))]
+    pub(crate) fn proceed(
+        &mut self,
+        main: &Function,
+        labels: &Labels,
+        widths: Widths,
+    ) -> Result<AStep, AllocError>
+        requires main { IsMain main.now }
+        requires labels { (n : ℕ) → place_in labels.now n ≡ place_of_label main.now.commands n }
+        requires running { self.old.phase ≡ Phase.Running }
+        requires begun { 0 < self.old.turns }
+        requires turns { IsTrue (counts (slice_get main.now.commands self.old.next)) → self.old.turns < 2 ^ 62 }
+        ensures led { Answers (led_to self.old (effect_at self.old.vars.items labels.now (length main.now.commands) widths (slice_get main.now.commands self.old.next))) (state_of self.old) (state_of self.new) result }
+        ensures counted { IsCounted self.new }
+    {
+        let commands = main.commands.as_slice();
+        match command_at(commands, self.next) {
+            Some(command) => {
+                let effect = compute(command, &self.vars, labels, commands.len(), widths);
+                self.take(effect)
+            }
+            None => Ok(self.end(0)),
+        }
     }
 
     /// What an effect of the command at `next` leads to.

@@ -16,20 +16,26 @@ fn main_of(alloc: Global, commands: &[Command]) -> Result<Function, Fail> {
     })
 }
 
-fn is_taken(alloc: Global, commands: &[Command], copies: usize) -> Result<bool, Fail> {
+fn program(alloc: Global, commands: &[Command], copies: usize) -> Result<Flat, Fail> {
     let mut functions = Items::new(alloc);
     for _ in 0..copies {
         functions.push(main_of(alloc, commands)?)?;
     }
-    let flat = Flat {
+    Ok(Flat {
         types: Types::new(alloc)?,
         globals: Items::new(alloc),
         functions,
-    };
-    match Valid::new(alloc, flat) {
-        Ok(_) => Ok(true),
-        Err(ValidFault::NotValid) => Ok(false),
-        Err(fault) => Err(fault.into()),
+    })
+}
+
+// Whether both types take a program, or neither does.
+fn are_taken(alloc: Global, commands: &[Command], copies: usize) -> Result<Option<bool>, Fail> {
+    let valid = Valid::new(alloc, program(alloc, commands, copies)?);
+    let plain = Plain::new(alloc, program(alloc, commands, copies)?);
+    match (valid, plain) {
+        (Ok(_), Ok(_)) => Ok(Some(true)),
+        (Err(ValidFault::NotValid), Err(ValidFault::NotValid)) => Ok(Some(false)),
+        _ => Ok(None),
     }
 }
 
@@ -42,20 +48,30 @@ fn only_programs_that_break_no_rule_are_taken(rt: HostRuntime) -> Result<(), Fai
         Command::Move(1, Operand::Constant(2_147_483_647)),
         Command::If(Operand::Var(1), 0),
     ];
-    assert!(rt; is_taken(alloc, &loop_back, 1)?);
-    assert!(rt; is_taken(alloc, &[], 1)?);
-    assert!(rt; !is_taken(alloc, &loop_back, 2)?);
-    assert!(rt; !is_taken(alloc, &[], 0)?);
-    assert!(rt; !is_taken(alloc, &[Command::Jump(0)], 1)?);
-    assert!(rt; !is_taken(alloc, &[Command::Label(0), Command::Label(0)], 1)?);
-    assert!(rt; !is_taken(alloc, &[Command::Label(0), Command::Jump(0)], 1)?);
-    assert!(rt; !is_taken(alloc, &[Command::Move(2, Operand::Var(0))], 1)?);
-    assert!(rt;
-        !is_taken(
+    assert_eq!(rt; are_taken(alloc, &loop_back, 1)?, Some(true));
+    assert_eq!(rt; are_taken(alloc, &[], 1)?, Some(true));
+    assert_eq!(rt; are_taken(alloc, &loop_back, 2)?, Some(false));
+    assert_eq!(rt; are_taken(alloc, &[], 0)?, Some(false));
+    assert_eq!(rt; are_taken(alloc, &[Command::Jump(0)], 1)?, Some(false));
+    assert_eq!(rt;
+        are_taken(alloc, &[Command::Label(0), Command::Label(0)], 1)?,
+        Some(false)
+    );
+    assert_eq!(rt;
+        are_taken(alloc, &[Command::Label(0), Command::Jump(0)], 1)?,
+        Some(false)
+    );
+    assert_eq!(rt;
+        are_taken(alloc, &[Command::Move(2, Operand::Var(0))], 1)?,
+        Some(false)
+    );
+    assert_eq!(rt;
+        are_taken(
             alloc,
             &[Command::Char(0, Operand::Constant(2_147_483_648))],
             1
-        )?
+        )?,
+        Some(false)
     );
     Ok(())
 }
