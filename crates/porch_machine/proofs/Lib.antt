@@ -3,3 +3,5 @@ pub mod Columns
 pub mod Stepping
 pub mod Resolutions
 pub mod Falls
+pub mod Cells
+pub mod Simple
