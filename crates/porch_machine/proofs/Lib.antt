@@ -5,3 +5,4 @@ pub mod Resolutions
 pub mod Falls
 pub mod Cells
 pub mod Simple
+pub mod Simulates
