@@ -43,6 +43,11 @@ run_of_machine flat budget out out' f f' status.NoMemory r = absurd r
 run_of_machine flat budget out out' f f' status.Usage r = r
 run_of_machine flat budget out out' f f' status.ReadFault r = r
 
+-- a budget that words order is one that a machine may have
+pub exec_within : (words : List (List ℕ)) (turns : ℕ) → IsExec words turns → turns ≤ 2 ^ 62
+exec_within words turns (inl w) = let e = w.1 in omega arith
+exec_within words turns (inr w) = w.2.greatest
+
 pub exec_is_setting : IsSetting exec_setting
 exec_is_setting = record { layout_is = refl; stack_least = omega arith; stack_most = omega arith; heap_least = omega arith; heap_most = omega arith }
 

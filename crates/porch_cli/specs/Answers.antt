@@ -13,6 +13,7 @@ use Rattle.porch_syntax.specs.Tree.{Program}
 use Rattle.porch_syntax.specs.Language.{IsSource, IsRefusal}
 use Rattle.porch_types.specs.Leaves.{kind_types}
 use Rattle.porch_values.specs.declared.widths.Widths.{Widths}
+use Rattle.porch_values.specs.declared.acts.Act.{Act}
 use Rattle.porch_objects.specs.Meaning as meaning
 use Rattle.porch_objects.specs.Meaning.{Meaning}
 use Rattle.porch_meaning.specs.Mean.{mean}

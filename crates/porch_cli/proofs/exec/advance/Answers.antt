@@ -1,4 +1,4 @@
-use Rattle.std.proofs.Common.{◌≡◌, ◌≤◌, ◌<◌, ◌⊎◌, refl, sym, ap, true, false, inl, inr}
+use Rattle.std.proofs.Common.{◌≡◌, ◌≤◌, ◌<◌, ◌⊎◌, [], refl}
 use Rattle.porch_machine.specs.Column.{Goes, Shows, column}
 use Rattle.porch_machine.specs.ByteRun.{counts_next}
 use Rattle.porch_cli.specs.Running.{StepsOn, BreaksOff}
