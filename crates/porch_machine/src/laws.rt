@@ -6,3 +6,8 @@ ghost use Rattle.porch_machine.specs.Laws.{RunsAgree, RunsAreOne};
 pub fn runs_are_one()
     ensures { RunsAreOne }
 {}
+
+/// A run over bytes of a valid program agrees with what the program means.
+pub fn runs_agree()
+    ensures { RunsAgree }
+{}

@@ -8,6 +8,6 @@ mod resolving;
 mod laws;
 pub mod step;
 
-pub use laws::runs_are_one;
+pub use laws::{runs_agree, runs_are_one};
 pub use machine::Machine;
 pub use step::Step;
