@@ -6,3 +6,5 @@ pub mod Falls
 pub mod Cells
 pub mod Simple
 pub mod Simulates
+pub mod OneRun
+pub mod Runs

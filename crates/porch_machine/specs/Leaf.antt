@@ -1,8 +1,7 @@
 -- Leaves as bytes: integers in two's complement and addresses, in a layout's byte order and sizes.
-use Rattle.std.specs.Prelude.{ℕ, zero, suc, ◌+◌, ◌*◌, ◌/◌, ◌%◌, ◌^◌, ℤ, pos, unsigned_abs, Bool, true, false, List, [], ◌∷◌, ◌++◌, length, take, drop, reverse, slice_get, if◌then◌else◌, Option, Some, None}
-use Rattle.porch_types.specs.declared.shapes.Kind.{Kind}
+use Rattle.std.specs.Prelude.{ℕ, zero, suc, ◌+◌, ◌*◌, ◌/◌, ◌%◌, ℤ, pos, unsigned_abs, Bool, false, List, [], ◌∷◌, ◌++◌, length, take, drop, reverse, slice_get, if◌then◌else◌, Option, Some}
 use Rattle.porch_types.specs.declared.shapes.Ty.{Ty}
-use Rattle.porch_types.specs.declared.shapes.Ty.TheVariants.{Whole, Pointer, Array, Struct}
+use Rattle.porch_types.specs.declared.shapes.Ty.TheVariants.{Whole}
 use Rattle.porch_values.specs.Integers.{is_signed, low_bits, signed_bits}
 use Rattle.porch_layout.specs.declared.layout.Layout.{Layout}
 use Rattle.porch_metrics.specs.Extents.{extent_of}

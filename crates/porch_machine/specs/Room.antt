@@ -1,6 +1,5 @@
 -- Where globals, the stack, its frames and the heap lie.
-use Rattle.std.specs.Prelude.{ℕ, ◌+◌, ◌*◌, max, List, [], ◌∷◌, map, slice_index, slice_get}
-use Rattle.porch_types.specs.declared.shapes.Ty.{Ty}
+use Rattle.std.specs.Prelude.{ℕ, ◌+◌, max, List, [], ◌∷◌, map, slice_index, slice_get}
 use Rattle.porch_layout.specs.declared.layout.Layout.{Layout}
 use Rattle.porch_metrics.specs.Extents.{Extent, extent_of, round_up}
 use Rattle.porch_flat.specs.declared.flat.Flat.{Flat}

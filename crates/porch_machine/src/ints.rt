@@ -15,12 +15,8 @@ pub fn load(memory: &[u8], v: u32) -> i32
     ensures { result ≡ int_in memory.now v }
 {
     let at = 32 + 8 * v as usize;
-    i32::from_le_bytes([
-        memory[at],
-        memory[at + 1],
-        memory[at + 2],
-        memory[at + 3],
-    ])
+    let word = u32::from_le_bytes([memory[at], memory[at + 1], memory[at + 2], memory[at + 3]]);
+    word.cast_signed()
 }
 
 // Gives a variable an int.

@@ -1,0 +1,13 @@
+//! What is true of whole runs over bytes.
+
+ghost use Rattle.porch_machine.specs.Laws.{RunsAgree, RunsAreOne};
+
+/// A run over bytes has one end.
+pub fn runs_are_one()
+    ensures { RunsAreOne }
+{}
+
+/// A run over bytes of a valid program agrees with what the program means.
+pub fn runs_agree()
+    ensures { RunsAgree }
+{}
