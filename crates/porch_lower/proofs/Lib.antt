@@ -1,0 +1,4 @@
+pub mod Expressions
+pub mod Joins
+pub mod Same
+pub mod Views
