@@ -60,7 +60,7 @@ pub(crate) fn held(
     from: u32,
     commands: &mut Items<Command>,
 ) -> Result<Operand, AllocError>
-    requires { from + temps_of (node_of expr.now) < 2 ^ 31 }
+    requires few { from + temps_of (node_of expr.now) < 2 ^ 31 }
     ensures code { OnOk result (commands.new ≡ commands.old ++ commands_or (atom_of (node_of expr.now)) (into_code (node_of expr.now) to from)) }
     ensures operand { IfOk result (λ operand. operand ≡ operand_in (node_of expr.now) to) }
 {
@@ -81,7 +81,7 @@ fn left(
     from: u32,
     commands: &mut Items<Command>,
 ) -> Result<Operand, AllocError>
-    requires { from + 2 + temps_of (node_of expr.now) < 2 ^ 31 }
+    requires few { from + 2 + temps_of (node_of expr.now) < 2 ^ 31 }
     ensures code { OnOk result (commands.new ≡ commands.old ++ left_commands (is_some right) (atom_of (node_of expr.now)) (into_code (node_of expr.now) from (from + 2))) }
     ensures operand { IfOk result (λ operand. operand ≡ left_operand (is_some right) (atom_of (node_of expr.now)) from) }
 {
@@ -103,7 +103,7 @@ fn factors(
     from: u32,
     commands: &mut Items<Command>,
 ) -> Result<(), AllocError>
-    requires { from + 2 + factors_temps (nodes_of (map node_of factors.now)) < 2 ^ 31 }
+    requires few { from + 2 + factors_temps (nodes_of (map node_of factors.now)) < 2 ^ 31 }
     ensures { OnOk result (commands.new ≡ commands.old ++ factors_from first (nodes_of (map node_of factors.now)) to from) }
 {
     let mut left = first;
@@ -125,15 +125,17 @@ fn terms(
     from: u32,
     commands: &mut Items<Command>,
 ) -> Result<(), AllocError>
-    requires { from + 2 + terms_temps (terms_of (map (λ t. (t.0, node_of t.1)) terms.now)) < 2 ^ 31 }
+    requires few { from + 2 + terms_temps (terms_of (map (λ t. (t.0, node_of t.1)) terms.now)) < 2 ^ 31 }
     ensures { OnOk result (commands.new ≡ commands.old ++ terms_from first (terms_of (map (λ t. (t.0, node_of t.1)) terms.now)) to from) }
 {
     let mut left = first;
-    for (index, (sign, term)) in terms.iter().enumerate() {
+    let mut index = 0;
+    for (sign, term) in terms {
         let right = held(term, from + 1, from + 2, commands)?;
         let place = term_place(terms, index, to, from);
         commands.push(sum_command(*sign, place, left, right))?;
         left = Operand::Var(from);
+        index += 1;
     }
     Ok(())
 }
@@ -146,7 +148,7 @@ pub(crate) fn into(
     from: u32,
     commands: &mut Items<Command>,
 ) -> Result<(), AllocError>
-    requires { from + temps_of (node_of expr.now) < 2 ^ 31 }
+    requires few { from + temps_of (node_of expr.now) < 2 ^ 31 }
     ensures { OnOk result (commands.new ≡ commands.old ++ into_code (node_of expr.now) to from) }
 {
     match expr {
