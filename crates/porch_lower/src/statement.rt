@@ -106,7 +106,7 @@ fn declaration(
     from: u32,
     commands: &mut Items<Command>,
 ) -> Result<(), AllocError>
-    requires { from + declarations_temps (option_map node_of initialiser.now ∷ []) < 2 ^ 31 }
+    requires few { from + declarations_temps (option_map node_of initialiser.now ∷ []) < 2 ^ 31 }
     ensures { OnOk result (commands.new ≡ commands.old ++ declarations_code from variable (option_map node_of initialiser.now ∷ [])) }
 {
     match initialiser {
