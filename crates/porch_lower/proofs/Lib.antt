@@ -1,6 +1,9 @@
 pub mod Blocks
 pub mod Counts
 pub mod Expressions
+pub mod Fine
 pub mod Joins
+pub mod Marks
 pub mod Same
+pub mod Turns
 pub mod Views
