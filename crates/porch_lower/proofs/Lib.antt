@@ -1,9 +1,11 @@
 pub mod Blocks
 pub mod Counts
 pub mod Expressions
+pub mod Few
 pub mod Fine
 pub mod Joins
 pub mod Marks
 pub mod Same
+pub mod Sources
 pub mod Turns
 pub mod Views
