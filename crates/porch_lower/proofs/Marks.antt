@@ -131,9 +131,11 @@ abbrev pub AreApart : List Command → List Command → Type 0
 AreApart xs ys = (n to : ℕ) → place_of_label ys n ≡ Some to → HasNot n xs
 
 leads_back : (xs ys : List Command) (k j n : ℕ) → AreApart xs ys → j ≡ length xs + k → Leads ys k n → Leads (xs ++ ys) j n
-leads_back xs ys k j n apart e l =
-    (length xs + l.0, found_back (is_label n) xs ys l.0 (length xs + l.0) (apart n l.0 l.1) l.1 refl,
-    elim l.2 [ inl forward ↦ inl (omega (arith, forward, e)) | inr turn ↦ inr (get_back xs ys (length xs + l.0 + 1) (l.0 + 1) (omega arith) ∙ turn) ])
+leads_back xs ys k j n apart e l = (
+  length xs + l.0,
+  found_back (is_label n) xs ys l.0 (length xs + l.0) (apart n l.0 l.1) l.1 refl,
+  elim l.2 [ inl forward ↦ inl (omega (arith, forward, e)) | inr turn ↦ inr (get_back xs ys (length xs + l.0 + 1) (l.0 + 1) (omega arith) ∙ turn) ],
+)
 
 pub well_back : (xs ys : List Command) (k j : ℕ) (c : Command) → AreApart xs ys → j ≡ length xs + k → GoesOnWell ys k c → GoesOnWell (xs ++ ys) j c
 well_back xs ys k j (command.Move v o) apart e h = tt

@@ -93,15 +93,15 @@ loop_well : (p : ℕ) (f : Function) (body tests : List Command) (o : Operand) �
     → IsWell (head (2 * p) (2 * p + 1) ++ (body ++ tail (2 * p) (2 * p + 1) tests o))
 loop_well p f body tests o inner good = record {
   at = λ k c h.
-    let b = 2 * p in
-    let t = 2 * p + 1 in
-    elim (either (head b t) (body ++ tail b t tests o) k c h) [
-      | inl a ↦ in_head p f body tests o k c inner a
-      | inr z ↦ elim (either body (tail b t tests o) z.0 c z.2) [
-        | inl a ↦ well_back (head b t) (body ++ tail b t tests o) z.0 k c (loop_apart p f body tests o inner good) z.1 (well_front body (tail b t tests o) z.0 c (inner.well.at z.0 c a))
-        | inr y ↦ in_tail p f body tests o k y.0 c inner good (omega (arith, z.1, y.1)) y.2
-      ]
-    ];
+      let b = 2 * p in
+      let t = 2 * p + 1 in
+      elim (either (head b t) (body ++ tail b t tests o) k c h) [
+        | inl a ↦ in_head p f body tests o k c inner a
+        | inr z ↦ elim (either body (tail b t tests o) z.0 c z.2) [
+          | inl a ↦ well_back (head b t) (body ++ tail b t tests o) z.0 k c (loop_apart p f body tests o inner good) z.1 (well_front body (tail b t tests o) z.0 c (inner.well.at z.0 c a))
+          | inr y ↦ in_tail p f body tests o k y.0 c inner good (omega (arith, z.1, y.1)) y.2
+        ]
+      ];
 }
 
 pub loop_block : (p : ℕ) (f : Function) (body tests : List Command) (o : Operand) → IsBlock f (p + 3) body → Each (IsGood f) tests → IsOperand f o → p < 2 ^ 30
@@ -110,8 +110,17 @@ loop_block p f body tests o inner good fits small =
     let b = 2 * p in
     let t = 2 * p + 1 in
     record {
-      parts = (omega (arith, small), (omega (arith, small), (tt, each_joined (HasParts f) body (tail b t tests o) inner.parts
-      (omega (arith, small), each_joined (HasParts f) tests (command.If o b ∷ []) (each_of (IsGood f) (HasParts f) tests (λ c k. k.0) good) ((fits, omega (arith, small)), tt)))));
+      parts = (
+        omega (arith, small),
+        (
+          omega (arith, small),
+          (
+            tt,
+            each_joined (HasParts f) body (tail b t tests o) inner.parts
+                (omega (arith, small), each_joined (HasParts f) tests (command.If o b ∷ []) (each_of (IsGood f) (HasParts f) tests (λ c k. k.0) good) ((fits, omega (arith, small)), tt)),
+          ),
+        ),
+      );
       low = λ n h. none_joined n (head b t) (body ++ tail b t tests o) (head_has_not n b t (λ e. omega (arith, h, e))) (none_joined n body (tail b t tests o) (inner.low n (omega (arith, h))) (tail_has_not f n b t tests o (λ e. omega (arith, h, e)) good));
       high = λ n h. let long = simp length-append at h in none_joined n (head b t) (body ++ tail b t tests o) (head_has_not n b t (λ e. omega (arith, long, e))) (none_joined n body (tail b t tests o) (inner.high n (omega (arith, long))) (tail_has_not f n b t tests o (λ e. omega (arith, long, e)) good));
       well = loop_well p f body tests o inner good;

@@ -34,8 +34,9 @@ fn main_temps(tree: &Tree) -> u32
     requires { temps_of_main (program_of tree.now) < 2 ^ 30 }
     ensures { result ≡ temps_of_main (program_of tree.now) }
 {
-    declarations_temps(tree.declarations.as_slice())
-        .max(statements_temps(tree.statements.as_slice()))
+    declarations_temps(tree.declarations.as_slice()).max(statements_temps(
+        tree.statements.as_slice(),
+    ))
 }
 
 /// The commands of `main`, whose temporaries begin behind the declared variables.

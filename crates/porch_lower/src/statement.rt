@@ -39,11 +39,7 @@ fn loop_test(
 
 /// A statement. The variables from a number on are its temporaries.
 #[cycle(statement)]
-fn statement(
-    statement: &Stmt,
-    from: u32,
-    commands: &mut Items<Command>,
-) -> Result<(), AllocError>
+fn statement(statement: &Stmt, from: u32, commands: &mut Items<Command>) -> Result<(), AllocError>
     requires few { from + action_temps (action_of statement.now) < 2 ^ 31 }
     requires short { length commands.old + length (action_code from (length commands.old) (action_of statement.now)) < 2 ^ 30 }
     ensures { OnOk result (commands.new ≡ commands.old ++ action_code from (length commands.old) (action_of statement.now)) }

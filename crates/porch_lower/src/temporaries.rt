@@ -43,11 +43,15 @@ pub(crate) fn temps(expr: &Expr) -> u32
         Expr::Nested(inner) => temps(inner.get()),
         Expr::Product { first, more } => match more.as_slice() {
             [] => temps(first.get()),
-            [_, ..] => temps(first.get()).max(factors_temps(more.as_slice())).saturating_add(2),
+            [_, ..] => temps(first.get())
+                .max(factors_temps(more.as_slice()))
+                .saturating_add(2),
         },
         Expr::Sum { first, more } => match more.as_slice() {
             [] => temps(first.get()),
-            [_, ..] => temps(first.get()).max(terms_temps(more.as_slice())).saturating_add(2),
+            [_, ..] => temps(first.get())
+                .max(terms_temps(more.as_slice()))
+                .saturating_add(2),
         },
         Expr::Less { left, right } => temps(left.get()).max(temps(right.get())).saturating_add(2),
     }
@@ -61,7 +65,9 @@ fn statement_temps(statement: &Stmt) -> u32
     match statement {
         Stmt::Assign { value, .. } => temps(value),
         Stmt::While { condition, body } => {
-            temps(condition).saturating_add(1).max(statements_temps(body.as_slice()))
+            temps(condition)
+                .saturating_add(1)
+                .max(statements_temps(body.as_slice()))
         }
         Stmt::Putchar(expr) => temps(expr).saturating_add(1),
         Stmt::Return(expr) => temps(expr).saturating_add(1),

@@ -1,5 +1,4 @@
-use Rattle.std.proofs.Common.{◌≡◌, ◌<◌, ◌+◌, ◌^◌, ◌++◌, drop, ◌∙◌, length, sym, ap, arith, rules}
-use Rattle.porch_lower.proofs.Joins.{on_ok, two_parts}
+use Rattle.std.proofs.Common.{◌≡◌, ◌<◌, ◌+◌, ◌^◌, drop, ◌∙◌, length, ap, arith, rules}
 use Rattle.porch_lower.proofs.Expressions.{term_row, product_alone, sum_alone, product_row, sum_row, comparison, factor_done, term_done, factors_left, terms_left}
 use denote.Param.Weighed.{at_most}
 use Rattle.porch_lower.specs.Code.{term_place}

@@ -1,4 +1,4 @@
-use Rattle.std.proofs.Common.{◌≡◌, ◌<◌, ◌+◌, ◌^◌, ◌++◌, max, length, ap, arith, rules, length-append}
+use Rattle.std.proofs.Common.{◌<◌, ◌++◌, length, arith}
 use Rattle.porch_lower.specs.Code.{declarations_code}
 use Rattle.porch_lower.proofs.Counts.{declared, declarations_here}
 use Rattle.porch_lower.proofs.Blocks.{declaration_done}

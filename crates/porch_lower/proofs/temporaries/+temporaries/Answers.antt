@@ -1,4 +1,4 @@
-use Rattle.std.proofs.Common.{◌≡◌, ◌<◌, ◌≤◌, ◌+◌, ◌^◌, max, length, sym, ap, ◌∙◌, arith, rules}
+use Rattle.std.proofs.Common.{arith}
 use Rattle.porch_lower.proofs.Counts.{product_alone, product_row, sum_alone, sum_row}
 use Rattle.porch_lower.proofs.temporaries.+temporaries.Goals as goal
 
