@@ -47,18 +47,3 @@ declaration_done whole commands after m i ds d w lt is a =
     let here = ap (λ (xs : List (Option Expr)). commands ++ declarations_code m i (declared xs)) (from_here ds i d lt is) in
     let one = ap (λ (z : List Command). commands ++ z) (one_declaration m i (option_map node_of d) (declared (drop (i + 1) ds))) in
     rw a (append_assoc commands (declarations_code m i (option_map node_of d ∷ [])) (declarations_code m (i + 1) (declared (drop (i + 1) ds))) ∙ sym one ∙ sym here ∙ w)
-
--- a loop's three parts
-pub loop_done : {A E : Type 0} (r : Result A E) (new body head old : List Command) (m first test : ℕ) (e : Node) (as' : Actions)
-    → first ≡ 2 * length old → test ≡ 2 * length old + 1
-    → head ≡ old ++ command.Jump test ∷ command.Label first ∷ command.Turn ∷ []
-    → body ≡ head ++ actions_code m (length head) as'
-    → OnOk r (new ≡ body ++ command.Label test ∷ (operand_code e m ++ command.If (operand_in e m) first ∷ []))
-    → OnOk r (new ≡ old ++ action_code m (length old) (repeat e as'))
-loop_done r new body head old m first test e as' f t h b done =
-    let place : length head ≡ length old + 3 = ap length h ∙ length-append old (command.Jump test ∷ command.Label first ∷ command.Turn ∷ []) in
-    let body' : body ≡ head ++ actions_code m (length old + 3) as' = b ∙ ap (λ p. head ++ actions_code m p as') place in
-    let last = command.Label test ∷ (operand_code e m ++ command.If (operand_in e m) first ∷ []) in
-    let whole : action_code m (length old) (repeat e as') ≡ (command.Jump test ∷ command.Label first ∷ command.Turn ∷ []) ++ (actions_code m (length old + 3) as' ++ last) = rw (f, t) refl in
-    two_parts r new head old (command.Jump test ∷ command.Label first ∷ command.Turn ∷ []) (actions_code m (length old + 3) as' ++ last) (action_code m (length old) (repeat e as')) h whole
-    (two_parts r new body head (actions_code m (length old + 3) as') last (actions_code m (length old + 3) as' ++ last) body' refl done)

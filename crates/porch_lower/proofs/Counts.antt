@@ -46,12 +46,6 @@ pub sum_row : (e first : Expr) (more : List (Sign × Expr)) → e ≡ Sum first 
 sum_row e first more h s = ap temps_of (node_of-Sum e first more h) ∙ more_terms more (node_of first) s
 
 -- those of what is left are the greater of its first part's and the rest's
-pub factors_here : (es : List Expr) (i : ℕ) (e : Expr) → i < length es → e ≡ get_or es i e → factors_temps (row (drop i es)) ≡ max (temps_of (node_of e)) (factors_temps (row (drop (i + 1) es)))
-factors_here es i e lt is = ap (λ (xs : List Expr). factors_temps (row xs)) (from_here es i e lt is)
-
-pub terms_here : (ts : List (Sign × Expr)) (i : ℕ) (x : Sign × Expr) → i < length ts → x ≡ get_or ts i x → terms_temps (term_row (drop i ts)) ≡ max (temps_of (node_of x.1)) (terms_temps (term_row (drop (i + 1) ts)))
-terms_here ts i x lt is = ap (λ (xs : List (Sign × Expr)). terms_temps (term_row xs)) (from_here ts i x lt is)
-
 pub actions_here : (ss : List Stmt) (i : ℕ) (s : Stmt) → i < length ss → s ≡ get_or ss i s → actions_temps (block (drop i ss)) ≡ max (action_temps (action_of s)) (actions_temps (block (drop (i + 1) ss)))
 actions_here ss i s lt is = ap (λ (xs : List Stmt). actions_temps (block xs)) (from_here ss i s lt is)
 

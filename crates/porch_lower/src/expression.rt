@@ -1,8 +1,8 @@
 //! The commands for the value of an expression.
 
-ghost use Rattle.std.specs.Prelude.{◌≡◌, ◌<◌, ◌+◌, ◌^◌, [], ◌∷◌, ◌++◌, length, drop, map, OnOk, IfOk, is_some};
+ghost use Rattle.std.specs.Prelude.{◌≡◌, ◌<◌, ◌+◌, ◌^◌, ◌++◌, length, drop, map, OnOk, IfOk, is_some};
 ghost use Rattle.porch_syntax.specs.Tree.{node_of, nodes_of, terms_of};
-ghost use Rattle.porch_lower.specs.Code.{atom_of, is_atom, operand_in, left_operand, left_commands, commands_or, by_sign, factor_place as place_of_factor, term_place as place_of_term, into_code, temps_of, factors_temps, terms_temps};
+ghost use Rattle.porch_lower.specs.Code.{atom_of, operand_in, left_operand, left_commands, commands_or, by_sign, factor_place as place_of_factor, term_place as place_of_term, into_code, temps_of, factors_temps, terms_temps};
 ghost use Rattle.porch_lower.specs.Rows.{factors_from, terms_from};
 
 use porch_flat::{Command, Operand};
@@ -129,13 +129,11 @@ fn terms(
     ensures { OnOk result (commands.new ≡ commands.old ++ terms_from first (terms_of (map (λ t. (t.0, node_of t.1)) terms.now)) to from) }
 {
     let mut left = first;
-    let mut index = 0;
-    for (sign, term) in terms {
+    for (index, (sign, term)) in terms.iter().enumerate() {
         let right = held(term, from + 1, from + 2, commands)?;
         let place = term_place(terms, index, to, from);
         commands.push(sum_command(*sign, place, left, right))?;
         left = Operand::Var(from);
-        index += 1;
     }
     Ok(())
 }

@@ -1,6 +1,6 @@
 //! The flat program of a tree.
 
-ghost use Rattle.std.specs.Prelude.{◌≡◌, ◌<◌, ◌+◌, ◌^◌, [], ◌∷◌, length, replicate, IfOk};
+ghost use Rattle.std.specs.Prelude.{◌≡◌, ◌<◌, ◌^◌, length, replicate, IfOk};
 ghost use Rattle.porch_syntax.specs.Tree.{program_of};
 ghost use Rattle.porch_flat.specs.Valid.{int_type};
 ghost use Rattle.porch_flat.specs.declared.valid.ValidFault.TheVariants.{NoMemory};

@@ -1,10 +1,10 @@
 //! The commands for statements.
 
-ghost use Rattle.std.specs.Prelude.{◌≡◌, ◌<◌, ◌+◌, ◌^◌, ℕ, Some, [], ◌∷◌, ◌++◌, length, map, OnOk, IfOk};
+ghost use Rattle.std.specs.Prelude.{◌≡◌, ◌<◌, ◌+◌, ◌^◌, [], ◌∷◌, ◌++◌, length, map, OnOk};
 ghost use Rattle.std.specs.Option.{option_map};
 ghost use Rattle.porch_syntax.specs.Tree.{node_of, action_of, actions_of, repeat as loop_of};
 ghost use Rattle.porch_flat.specs.declared.flat.Command.TheVariants as command;
-ghost use Rattle.porch_lower.specs.Code.{action_code, actions_code, declarations_code, operand_code, operand_in, body_label, test_label, temps_of, action_temps, actions_temps, declarations_temps};
+ghost use Rattle.porch_lower.specs.Code.{action_code, actions_code, declarations_code, operand_code, operand_in, temps_of, action_temps, actions_temps, declarations_temps};
 
 use crate::expression::{held, into};
 use porch_flat::Command;

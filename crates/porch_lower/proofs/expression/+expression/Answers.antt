@@ -1,7 +1,6 @@
-use Rattle.std.proofs.Common.{◌≡◌, ◌<◌, ◌+◌, ◌^◌, drop, ◌∙◌, length, ap, arith, rules}
-use Rattle.porch_lower.proofs.Expressions.{term_row, product_alone, sum_alone, product_row, sum_row, comparison, factor_done, term_done, factors_left, terms_left}
+use Rattle.std.proofs.Common.{◌<◌, ◌^◌, length, arith, rules}
+use Rattle.porch_lower.proofs.Expressions.{product_alone, sum_alone, product_row, sum_row, comparison, factor_done, term_done, factors_left, terms_left}
 use denote.Param.Weighed.{at_most}
-use Rattle.porch_lower.specs.Code.{term_place}
 use Rattle.porch_lower.proofs.expression.+expression.Goals as goal
 
 pub into-returns-in-empty : goal.into-returns-in-empty
@@ -52,20 +51,17 @@ factors-loop-index-preserved t c =
       few = (factors_left (2 ^ 31) c.args.from c.loop-index.index c.args.factors.now c.index-factors-index.result c.loop-index.invariant.few here c.index-factors-index.is).1;
     }
 
-pub terms-loop-sign-preserved : goal.terms-loop-sign-preserved
-terms-loop-sign-preserved t c =
-    let here : c.loop-sign.sign-index < length c.args.terms.now = omega arith in
-    let same : c.loop-sign.index ≡ c.loop-sign.sign-index = c.loop-sign.invariant.same in
+pub terms-loop-index-preserved : goal.terms-loop-index-preserved
+terms-loop-index-preserved t c =
+    let here : c.loop-index.index < length c.args.terms.now = omega arith in
     let after = rw c.sum_command.ensures at c.in_ok-push.ensures.ok in
-    let place : c.term_place-place.result ≡ term_place (term_row (drop (c.loop-sign.sign-index + 1) c.args.terms.now)) c.args.to c.args.from = c.term_place-place.ensures ∙ ap (λ k. term_place (term_row (drop (k + 1) c.args.terms.now)) c.args.to c.args.from) same in
     record {
-      same = omega (arith, same);
-      code = term_done _ c.loop-sign.commands c.held.new.commands c.push.new.self c.loop-sign.left c.in_ok-right.right c.term_place-place.result c.args.to c.args.from c.loop-sign.sign-index c.args.terms.now c.loop-sign-item.result c.loop-sign.invariant.code here c.loop-sign-item.is c.in_ok-right.ensures.code c.in_ok-right.ensures.operand place after;
-      few = (terms_left (2 ^ 31) c.args.from c.loop-sign.sign-index c.args.terms.now c.loop-sign-item.result c.loop-sign.invariant.few here c.loop-sign-item.is).1;
+      code = term_done _ c.loop-index.commands c.held.new.commands c.push.new.self c.loop-index.left c.in_ok-right.right c.term_place-place.result c.args.to c.args.from c.loop-index.index c.args.terms.now c.index-terms-index.result c.loop-index.invariant.code here c.index-terms-index.is c.in_ok-right.ensures.code c.in_ok-right.ensures.operand c.term_place-place.ensures after;
+      few = (terms_left (2 ^ 31) c.args.from c.loop-index.index c.args.terms.now c.index-terms-index.result c.loop-index.invariant.few here c.index-terms-index.is).1;
     }
 
 pub terms-held-requires : goal.terms-held-requires
 terms-held-requires t c =
-    let here : c.loop-sign.sign-index < length c.args.terms.now = omega arith in
-    let few = (terms_left (2 ^ 31) c.args.from c.loop-sign.sign-index c.args.terms.now c.loop-sign-item.result c.loop-sign.invariant.few here c.loop-sign-item.is).0 in
+    let here : c.loop-index.index < length c.args.terms.now = omega arith in
+    let few = (terms_left (2 ^ 31) c.args.from c.loop-index.index c.args.terms.now c.index-terms-index.result c.loop-index.invariant.few here c.index-terms-index.is).0 in
     (search (rules, at_most), few)

@@ -12,9 +12,8 @@ invariant-factors-loop-index l = record {
 }
 
 -- and likewise for terms
-abbrev pub invariant-terms-loop-sign : goal.invariant-terms-loop-sign
-invariant-terms-loop-sign l = record {
-  same : l.index ≡ l.sign-index;
-  code : l.commands ++ terms_from l.left (term_row (drop l.sign-index l.terms)) l.to l.from ≡ l.fn.commands ++ terms_from l.fn.first (term_row l.terms) l.to l.from;
-  few : l.from + 2 + terms_temps (term_row (drop l.sign-index l.terms)) < 2 ^ 31;
+abbrev pub invariant-terms-loop-index : goal.invariant-terms-loop-index
+invariant-terms-loop-index l = record {
+  code : l.commands ++ terms_from l.left (term_row (drop l.index l.terms)) l.to l.from ≡ l.fn.commands ++ terms_from l.fn.first (term_row l.terms) l.to l.from;
+  few : l.from + 2 + terms_temps (term_row (drop l.index l.terms)) < 2 ^ 31;
 }
