@@ -15,6 +15,7 @@ use Rattle.porch_flat.specs.declared.flat.Function.{Function}
 use Rattle.porch_flat.specs.declared.flat.Flat.{Flat}
 use Rattle.porch_flat.specs.declared.valid.ValidFault.{ValidFault}
 use Rattle.porch_flat.specs.declared.valid.ValidFault.TheVariants.{NotValid, NoMemory}
+use Rattle.porch_flat.specs.Places.{place_of_label}
 use Rattle.porch_flat.specs.Valid.{int_type, IsOperand, HasParts, IsFunction, IsMain, IsValid, IsRefused}
 use Rattle.porch_lower.specs.Code.{atom_of, is_atom, operand_or, operand_in, commands_or, left_operand, left_commands, by_sign, factor_place, term_place, into_code, factors_code, terms_code, operand_code, action_code, actions_code, declarations_code, main_code, temps_of, factors_temps, terms_temps, action_temps, actions_temps, declarations_temps, main_temps, main_function, flat_of}
 use Rattle.porch_lower.specs.Lowered.{IsFit, FactorsFit, TermsFit, ActionFits, ActionsFit, DeclarationsFit, IsLowerable}
@@ -152,6 +153,10 @@ main_block p l =
     (block_joined f (length front) (length front + length acts) acts last
     (actions_block f m (length front) p.actions l.stated (omega (arith, room)) (omega (arith, room)) (omega (arith, short))) refl
     (straight_block f (length front + length acts) last ((refl, tt), tt)))
+
+-- each label stands where it is looked for
+pub labels_stand : (p : Program) → IsLowerable p → (at n : ℕ) → slice_get (main_code p) at ≡ Some (command.Label n) → place_of_label (main_code p) n ≡ Some at
+labels_stand p l at n h = (main_block p l).well.at at (command.Label n) h
 
 pub valid : (p : Program) → IsLowerable p → IsValid (flat_of p)
 valid p l =
