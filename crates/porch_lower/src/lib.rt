@@ -1,11 +1,15 @@
 //! Lowering: the flat program that means what a tree means.
+//!
+//! `expression.rt` has the commands for a value, `statement.rt` those for statements, `temporaries.rt` how many variables
+//! they take besides the declared ones, and `program.rt` the program. `specs/Code` says which commands those are, and
+//! `specs/Lowered` what is promised of them.
 #![tactic(auto)]
 
-ghost use Rattle.std.specs.Prelude.{ℕ, List};
-ghost use Rattle.porch_syntax.specs.Tree.{Program};
-ghost use Rattle.porch_lower.specs.Lowered.{IsLowerable, IsLowered, MeansTheSame};
-ghost use Rattle.porch_lower.specs.Code.{flat_of};
+mod expression;
+mod laws;
+mod program;
+mod statement;
+mod temporaries;
 
-pub fn same_meaning()
-    ensures { (p : Program) → IsLowerable p → MeansTheSame p (flat_of p) }
-{}
+pub use laws::sources_are_lowerable;
+pub use program::lower;
