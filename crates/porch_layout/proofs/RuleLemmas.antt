@@ -1,5 +1,5 @@
 -- Each rule of layouts files is answered exactly where it is broken.
-use Rattle.std.proofs.Common.{◌≡◌, ℕ, ◌<◌, ◌≤◌, ◌⊎◌, Bool, true, false, nat_lt, cond, List, [], ◌∷◌, length, Option, Some, None, Result, Ok, Err, refl, ap, sym, ◌∙◌, is_some, inl, inr, rules}
+use Rattle.std.proofs.Common.{◌≡◌, ℕ, ◌<◌, ◌≤◌, ◌⊎◌, Bool, true, false, nat_lt, cond, List, [], ◌∷◌, length, Option, Some, None, Result, Ok, Err, refl, ap, sym, ◌∙◌, is_some, inl, inr}
 use Rattle.std.specs.Option.{option_and_then, option_map_or}
 use Rattle.std.proofs.lemmas.Bool.{lt-ltb, ltb-true, ltb-false}
 use Rattle.toml.specs.Data.{Data, as_integer, as_str, as_table, Members, get_member}
@@ -11,7 +11,6 @@ use Rattle.porch_layout.specs.declared.fault.LayoutRule.TheVariants.{TooLong, No
 use Rattle.porch_layout.specs.declared.fault.LayoutFault.{LayoutFault}
 use Rattle.porch_layout.specs.declared.fault.LayoutFault.TheVariants.{BadLayout, NoMemory}
 use Rattle.porch_layout.specs.Words.{key_name}
-use Rattle.porch_layout.specs.Layouts.{layout}
 use Rattle.porch_layout.specs.Files.{UnlessMemory, layout_of, layout_of_tables, tables_of, layout_at, layout_of_data, layout_in, layout_by_keys, layout_keys, are_layout_keys, choice_of, sizes, alignments, number_in, number_at, valued, and_then, order_at, order_of}
 use Rattle.porch_layout.specs.Rules.{RefusesWhere, Says, Describes, BreaksAt, HasUnknownKey, HasNoTable, IsNotToml, number_of, number_breaks, order_breaks, breaks, or_next, first_broken}
 use Rattle.porch_layout.proofs.FileLemmas.{layout_of-tables}

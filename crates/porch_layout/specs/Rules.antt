@@ -1,5 +1,5 @@
 -- When each rule of layouts files is broken.
-use Rattle.std.specs.Prelude.{◌≡◌, ℕ, ◌≤◌, ◌⊎◌, true, false, if◌then◌else◌, List, [], ◌∷◌, codes, length, Option, Some, None, is_some, Result, Err}
+use Rattle.std.specs.Prelude.{◌≡◌, ℕ, ◌≤◌, ◌⊎◌, true, false, if◌then◌else◌, List, [], ◌∷◌, length, Option, Some, None, is_some, Result, Err}
 use Rattle.std.specs.Option.{option_and_then, option_map_or}
 use Rattle.toml.specs.Data.{Data, as_integer, as_str, as_table, Members, get_member}
 use Rattle.porch_layout.specs.declared.layout.Layout.{Layout}
