@@ -21,14 +21,13 @@ apart_removed from end at bytes (b ∷ xs) (suc i) h low below e =
       | inr behind ↦ (inr behind, apart_removed (b.at + b.bytes + 1) end at bytes xs i h.1 (omega arith) below e.1)
     ]
 
-pub removed_keeps : (base size : ℕ) (live : List Block) (hints : List Hint) (capacity index : ℕ) → Keeps (state base size live) hints capacity → index < length live → Keeps (state base size (remove live index)) (map (lowered (gap_low base index live)) hints) capacity
-removed_keeps base size live hints capacity index k less =
+pub removed_keeps : (base size : ℕ) (live : List Block) (hints : List Hint) (index : ℕ) → Keeps (state base size live) hints → index < length live → Keeps (state base size (remove live index)) (map (lowered (gap_low base index live)) hints)
+removed_keeps base size live hints index k less =
     let stand = k.heap.stand in
     let few = k.heap.few in
     let shorter = length-remove live index less in
     record {
       heap = record { small = k.heap.small; few = omega arith; stand = stand_remove base (base + size) live index stand };
-      room = k.room;
       true_hints = lowered_hints (state base size live) (state base size (remove live index)) (gap_low base index live) refl
           (λ bytes align at below g. record {
             multiple = g.multiple;
@@ -39,30 +38,27 @@ removed_keeps base size live hints capacity index k less =
           hints k.true_hints;
     }
 
-pub inserted_keeps : (base size : ℕ) (live : List Block) (hints : List Hint) (capacity index capacity' : ℕ) (b : Block) → Keeps (state base size live) hints capacity → base ≤ b.at → b.at + b.bytes < base + size → Divides live index b.at b.bytes → length live < 65536 → capacity ≤ capacity' → Keeps (state base size (insert live index b)) hints capacity'
-inserted_keeps base size live hints capacity index capacity' b k low high place few grows =
+pub inserted_keeps : (base size : ℕ) (live : List Block) (hints : List Hint) (index : ℕ) (b : Block) → Keeps (state base size live) hints → base ≤ b.at → b.at + b.bytes < base + size → Divides live index b.at b.bytes → length live < 65536 → Keeps (state base size (insert live index b)) hints
+inserted_keeps base size live hints index b k low high place few =
     let stand = k.heap.stand in
-    let room = k.room in
     let longer = length-insert live index b place.within in
     record {
       heap = record { small = k.heap.small; few = omega arith; stand = stand_insert base (base + size) live index b stand place.within low place.before place.behind high };
-      room = omega arith;
       true_hints = fewer_places (state base size live) (state base size (insert live index b)) refl (λ bytes align at g. record { multiple = g.multiple; low = g.low; high = g.high; apart = (each_insert (IsApart at bytes) live index b g.apart).1 }) hints k.true_hints;
     }
 
 -- a new hint: the first place for the least request of a class
-pub hinted_keeps : (base size : ℕ) (live : List Block) (hints : List Hint) (capacity number bytes align at : ℕ) → Keeps (state base size live) hints capacity → IsAlignment align → IsFirstGap (state base size live) bytes align at → Keeps (state base size live) (set hints number (record { bytes = bytes; align = align; low = at })) capacity
-hinted_keeps base size live hints capacity number bytes align at k a first =
+pub hinted_keeps : (base size : ℕ) (live : List Block) (hints : List Hint) (number bytes align at : ℕ) → Keeps (state base size live) hints → IsAlignment align → IsFirstGap (state base size live) bytes align at → Keeps (state base size live) (set hints number (record { bytes = bytes; align = align; low = at }))
+hinted_keeps base size live hints number bytes align at k a first =
     let high = first.gap.high in
     record {
       heap = k.heap;
-      room = k.room;
       true_hints = set_hint (state base size live) hints number _ k.true_hints (record { align = a; high = omega arith; none = λ other below g. let least = first.least other g in omega arith });
     }
 
 -- where a search begins
-pub start_keeps : (base size : ℕ) (live : List Block) (hints : List Hint) (capacity bytes align number : ℕ) (d : Hint) → Keeps (state base size live) hints capacity → IsAlignment align → number < length hints → IsStart (state base size live) bytes align (start_at base bytes align (get_or hints number d))
-start_keeps base size live hints capacity bytes align number d k a less =
+pub start_keeps : (base size : ℕ) (live : List Block) (hints : List Hint) (bytes align number : ℕ) (d : Hint) → Keeps (state base size live) hints → IsAlignment align → number < length hints → IsStart (state base size live) bytes align (start_at base bytes align (get_or hints number d))
+start_keeps base size live hints bytes align number d k a less =
     start_true (state base size live) bytes align base (get_or hints number d) a (hint_at (state base size live) hints number d k.true_hints less)
     (record { low = omega arith; high = omega arith; none = λ at below g. let low = g.low in omega arith })
 

@@ -28,8 +28,7 @@ start_at base bytes align h = if nat_le h.bytes bytes && nat_le h.align align &&
 abbrev pub lowered : ℕ → Hint → Hint
 lowered from h = record h { low = min h.low from }
 
--- what a heap keeps: its blocks have room for all, and the hints are true
-pub record Keeps (h : HeapState) (hints : List Hint) (capacity : ℕ) : Type 0 where
+-- what a heap keeps: its blocks lie in it, and the hints are true
+pub record Keeps (h : HeapState) (hints : List Hint) : Type 0 where
   pub heap : IsHeap h
-  pub room : 65536 ≤ capacity
   pub true_hints : AreHints h hints

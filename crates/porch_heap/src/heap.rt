@@ -5,6 +5,7 @@ ghost use Rattle.porch_heap.specs.Searching.{Divides};
 use crate::block::{Block, HeapFull, NotABlock};
 use crate::hint::{Hint, class_of, lower, start_of};
 use crate::place::{Place, first_place, free_from, holding, longest_run, number_of};
+use crate::row::Row;
 use std::alloc::{AllocError, Global};
 use std::marker::Model;
 
@@ -19,7 +20,7 @@ const MOST_BLOCKS: usize = 65536;
 pub struct Heap {
     base: u64,
     bytes: u64,
-    live: Vec<Block>,
+    live: Row,
     hints: [Hint; 64],
 }
 
@@ -28,13 +29,12 @@ impl Model for Heap {
 
     ghost Value = { HeapState };
 
-    ghost view = { λ h. record { base = h.base; bytes = h.bytes; blocks = h.live.items } };
+    ghost view = { λ h. record { base = h.base; bytes = h.bytes; blocks = h.live } };
 
-    ghost use Rattle.std.specs.Prelude.{vec_capacity};
     ghost use Rattle.porch_heap.specs.Searching.{state};
     ghost use Rattle.porch_heap.specs.Standing.{Keeps};
 
-    ghost invariant = { λ h. Keeps (state h.base h.bytes h.live.items) h.hints (vec_capacity h.live) };
+    ghost invariant = { λ h. Keeps (state h.base h.bytes h.live) h.hints };
 }
 
 impl Heap {
@@ -45,7 +45,7 @@ impl Heap {
         ensures empty { IfOk result (λ h. h ≡ record { base = base; bytes = bytes; blocks = [] }) }
         ensures valid { IfOk result IsHeap }
     {
-        let live = Vec::with_capacity(alloc, MOST_BLOCKS)?;
+        let live = Row::new(alloc)?;
         let hints = [Hint {
             bytes: 1,
             align: 1,
@@ -137,7 +137,7 @@ impl Heap {
                     self.base + self.bytes,
                     index,
                 );
-                let _ = self.live.remove(index);
+                self.live.remove(index);
                 lower(&mut self.hints, from);
                 Ok(())
             }
@@ -213,6 +213,6 @@ impl Heap {
         ensures added { self.new ≡ heap_with block self.old }
         ensures valid { IsHeap self.new }
     {
-        let _ = self.live.insert(index, block);
+        self.live.insert(index, block);
     }
 }

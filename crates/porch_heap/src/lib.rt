@@ -10,6 +10,7 @@ mod block;
 mod heap;
 mod hint;
 mod place;
+mod row;
 #[cfg(test)]
 mod tests;
 

@@ -103,3 +103,39 @@ fn the_most_blocks(rt: HostRuntime) -> Result<(), Fail> {
     assert_eq!(rt; heap.take(0, 1, 2, 2), Ok(131_072));
     Ok(())
 }
+
+// A block before the only one finds no room before it, and so many turns of a `free` and an
+// allocation use up the room behind the last one: each time all blocks move to the middle.
+#[test]
+fn blocks_move_to_the_middle(rt: HostRuntime) -> Result<(), Fail> {
+    let mut heap = Heap::new(rt.alloc(), 17, 100)?;
+    assert_eq!(rt; heap.take(1, 1, 4, 8), Ok(24));
+    assert_eq!(rt; heap.take(2, 1, 6, 1), Ok(17));
+    assert_eq!(rt; heap.take(3, 1, 8, 8), Ok(32));
+    for _ in 0..140_000u32 {
+        assert_eq!(rt; heap.give_back(24), Ok(()));
+        assert_eq!(rt; heap.take(1, 1, 4, 8), Ok(24));
+    }
+    let blocks = [
+        Block {
+            at: 17,
+            ty: 2,
+            count: 1,
+            bytes: 6,
+        },
+        Block {
+            at: 24,
+            ty: 1,
+            count: 1,
+            bytes: 4,
+        },
+        Block {
+            at: 32,
+            ty: 3,
+            count: 1,
+            bytes: 8,
+        },
+    ];
+    assert_eq!(rt; heap.blocks(), blocks.as_slice());
+    Ok(())
+}

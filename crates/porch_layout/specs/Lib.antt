@@ -1,3 +1,4 @@
 pub mod Layouts
 pub mod Words
 pub mod Files
+pub mod Rules

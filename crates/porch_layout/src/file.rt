@@ -1,9 +1,11 @@
-ghost use Rattle.std.specs.Prelude.{◌≡◌, IfOk, option_map};
+ghost use Rattle.std.specs.Prelude.{◌≡◌, ◌<◌, IfOk, None, length, option_map};
 ghost use Rattle.std.specs.Prelude.{string_bytes};
 ghost use Rattle.std.specs.List.{list_all};
 ghost use Rattle.std.specs.BTreeMap.{keys};
 ghost use Rattle.porch_layout.specs.Layouts.{IsLayout};
 ghost use Rattle.porch_layout.specs.Files.{UnlessMemory, layout_of, layout_in, layout_at, number_in, number_at, order_at, choice_of, are_layout_keys, is_layout_key};
+ghost use Rattle.porch_layout.specs.Rules.{BreaksAt, HasNoTable, HasUnknownKey, IsNotToml, RefusesWhere, Says};
+ghost use Rattle.porch_layout.specs.declared.fault.LayoutKey.{LayoutKey};
 ghost use Rattle.toml.specs.View.{view, table_view};
 ghost use Rattle.toml.specs.Data.{get_member};
 
@@ -26,6 +28,20 @@ const ALIGNMENTS: [u8; 4] = [1, 2, 4, 8];
 /// `order` (`"little"` or `"big"`), `long`, `pointer`, `align_short`, `align_int`, `align_long`,
 /// `align_pointer` and `least_struct`. The first rule that it breaks is answered.
 pub fn layout_from(alloc: Global, text: &[u8], name: &str) -> Result<Layout, LayoutFault>
+    ensures answer { UnlessMemory result (layout_of text.now name.now) }
+    ensures allowed { IfOk result IsLayout }
+    ensures too_long { RefusesWhere result LayoutKey.File LayoutRule.TooLong (65536 < length text.now) }
+    ensures not_toml { RefusesWhere result LayoutKey.File LayoutRule.NotToml (IsNotToml text.now) }
+    ensures no_name { RefusesWhere result LayoutKey.Name LayoutRule.NoName (Says text.now name.now None) }
+    ensures not_table { RefusesWhere result LayoutKey.Name LayoutRule.NotTable (HasNoTable text.now name.now) }
+    ensures unknown_key { RefusesWhere result LayoutKey.Other LayoutRule.UnknownKey (HasUnknownKey text.now name.now) }
+    ensures missing_key { (key : LayoutKey) → RefusesWhere result key LayoutRule.MissingKey (BreaksAt text.now name.now key LayoutRule.MissingKey) }
+    ensures bad_value { (key : LayoutKey) → RefusesWhere result key LayoutRule.BadValue (BreaksAt text.now name.now key LayoutRule.BadValue) }
+{
+    layout_read(alloc, text, name)
+}
+
+fn layout_read(alloc: Global, text: &[u8], name: &str) -> Result<Layout, LayoutFault>
     ensures answer { UnlessMemory result (layout_of text.now name.now) }
     ensures allowed { IfOk result IsLayout }
 {

@@ -180,6 +180,12 @@ fn files_that_are_no_text(rt: HostRuntime) -> Result<(), Fail> {
         layout_from(alloc, &[255], "odd"),
         refusal(LayoutKey::File, LayoutRule::NotToml)
     );
+    Ok(())
+}
+
+#[test]
+fn the_longest_files(rt: HostRuntime) -> Result<(), Fail> {
+    let alloc = rt.alloc();
     let spaces = vec![in alloc; b'\n'; 65537]?;
     let most = layout_from(alloc, &spaces[..65536], "odd");
     assert_eq!(rt; most, refusal(LayoutKey::Name, LayoutRule::NoName));

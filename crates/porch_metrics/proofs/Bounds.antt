@@ -7,11 +7,11 @@ use Rattle.porch_types.specs.declared.shapes.Kind.{Kind}
 use Rattle.porch_types.specs.declared.shapes.Kind.TheVariants.{Char, UChar, Short, UShort, Int, UInt, Long, ULong}
 use Rattle.porch_types.specs.declared.shapes.Ty.{Ty}
 use Rattle.porch_types.specs.declared.shapes.Ty.TheVariants.{Whole, Pointer, Array, Struct}
-use Rattle.porch_types.specs.Leaves.{parts_of, leaves_together, leaf_count, leaves_of, AreFormed, IsFormed}
-use Rattle.porch_types.proofs.Counts.{leaves_is}
+use Rattle.porch_types.specs.Leaves.{parts_of, leaves_together, leaf_count, leaves_of, IsFormed}
 use Rattle.porch_layout.specs.declared.layout.Layout.{Layout}
 use Rattle.porch_layout.specs.Layouts.{IsLayout, IsSize}
 use Rattle.porch_metrics.specs.Extents.{Extent, kind_extent, round_up, greatest_align, member_places, members_end, type_extent, extent_of}
+use Rattle.porch_metrics.specs.Tables.{AreCounted}
 use Rattle.porch_metrics.proofs.Extended.{extent_is}
 
 abbrev pub IsPower : ℕ → Type 0
@@ -114,7 +114,7 @@ type_bounded l f leaves (Struct members) is a =
     let p : IsPower (greatest_align f l.least_struct members) = greatest_power f leaves l.least_struct members is.least_struct.power a in
     record { power = p; size = round_bound (members_end f 0 members) (leaves_together leaves members) (greatest_align f l.least_struct members) p (omega (arith, end_bound f leaves 0 0 members a (omega arith))) }
 
-bounded_below : (l : Layout) (types : List Ty) → IsLayout l → AreFormed types → (bound n : ℕ) → n < bound → n < length types → IsBounded (extent_of l types n) (leaves_of types n)
+bounded_below : (l : Layout) (types : List Ty) → IsLayout l → AreCounted types → (bound n : ℕ) → n < bound → n < length types → IsBounded (extent_of l types n) (leaves_of types n)
 bounded_below l types is formed zero n lt within = absurd (omega arith)
 bounded_below l types is formed (suc bound) n lt within =
     let ty : Ty = get_or types n (Pointer 0) in
@@ -125,8 +125,8 @@ bounded_below l types is formed (suc bound) n lt within =
     bounded_below l types is formed bound (get_or (parts_of ty) k d) (omega (arith, e, lt)) (omega (arith, e, within)) in
     let b : IsBounded (type_extent l (extent_of l types) ty) (leaf_count (leaves_of types) ty) = type_bounded l (extent_of l types) (leaves_of types) ty is parts in
     subst (λ e. IsBounded e (leaves_of types n)) (sym (extent_is l types n ty f.earlier at))
-    (subst (λ x. IsBounded (type_extent l (extent_of l types) ty) x) (sym (leaves_is types n ty f.earlier at)) b)
+    (subst (λ x. IsBounded (type_extent l (extent_of l types) ty) x) (sym (formed.together n ty at)) b)
 
 -- each type has at most eight bytes for each leaf
-pub bounded : (l : Layout) (types : List Ty) (n : ℕ) → IsLayout l → AreFormed types → n < length types → IsBounded (extent_of l types n) (leaves_of types n)
+pub bounded : (l : Layout) (types : List Ty) (n : ℕ) → IsLayout l → AreCounted types → n < length types → IsBounded (extent_of l types n) (leaves_of types n)
 bounded l types n is formed within = bounded_below l types is formed (suc n) n (omega arith) within

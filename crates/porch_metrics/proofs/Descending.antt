@@ -7,13 +7,13 @@ use Rattle.std.proofs.Math.Nat.{div-mul-le_self, lt-div-mul-add}
 use Rattle.porch_types.specs.declared.shapes.Ty.{Ty}
 use Rattle.porch_types.specs.declared.shapes.Ty.TheVariants.{Whole, Pointer, Array, Struct}
 use Rattle.porch_types.specs.declared.parts.Part.{Part}
-use Rattle.porch_types.specs.Leaves.{leaves_together, leaves_of, AreFormed, IsFormed}
+use Rattle.porch_types.specs.Leaves.{leaves_together, leaves_of, IsFormed}
 use Rattle.porch_types.specs.Rows.{part_at, part_of, element_at, member_at}
-use Rattle.porch_types.proofs.Counts.{leaves_some}
 use Rattle.porch_layout.specs.declared.layout.Layout.{Layout}
 use Rattle.porch_layout.specs.Layouts.{IsLayout}
 use Rattle.porch_metrics.specs.Extents.{extent_of, member_places}
 use Rattle.porch_metrics.specs.Places.{part_place, place_within}
+use Rattle.porch_metrics.specs.Tables.{AreCounted}
 use Rattle.porch_metrics.proofs.Bounds.{IsBounded, bounded, place_bound, array_bound}
 
 -- a part that holds a leaf, which is number `part.index` of its whole
@@ -83,19 +83,19 @@ pub record Lies (l : Layout) (types : List Ty) (ty leaf : ℕ) (o : Option Ty) (
   pub holds : Holds types ty leaf part
   pub bound : part_place (extent_of l types) o part.index ≤ 8 * part.first
 
-lies_array : (l : Layout) (types : List Ty) (ty leaf of n : ℕ) (part : Part) → IsLayout l → AreFormed types → slice_get types ty ≡ Some (Array of n) → part_of types (Some (Array of n)) leaf ≡ Some part
+lies_array : (l : Layout) (types : List Ty) (ty leaf of n : ℕ) (part : Part) → IsLayout l → AreCounted types → slice_get types ty ≡ Some (Array of n) → part_of types (Some (Array of n)) leaf ≡ Some part
     → Lies l types ty leaf (Some (Array of n)) part
 lies_array l types ty leaf of n part is formed at h =
     let earlier : of < ty = (formed.each ty (Array of n) at).earlier 0 0 (omega arith) in
     let within : of < length types = omega (arith, earlier, slice_get_within types ty (Array of n) at) in
-    let e : ElementIs of (leaves_of types of) n leaf part = element_is of (leaves_of types of) n leaf part (leaves_some types of formed within) h in
+    let e : ElementIs of (leaves_of types of) n leaf part = element_is of (leaves_of types of) n leaf part (formed.some of within) h in
     let b : IsBounded (extent_of l types of) (leaves_of types of) = bounded l types of is formed within in
     record {
       holds = record { below = e.below; inside = subst (λ x. leaf < part.first + leaves_of types x) (sym e.ty) e.inside; earlier = omega (arith, e.ty, earlier) };
       bound = omega (arith, e.begins, array_bound part.index (extent_of l types of).size (leaves_of types of) b.size);
     }
 
-lies_struct : (l : Layout) (types : List Ty) (ty leaf : ℕ) (members : List ℕ) (part : Part) → IsLayout l → AreFormed types → slice_get types ty ≡ Some (Struct members)
+lies_struct : (l : Layout) (types : List Ty) (ty leaf : ℕ) (members : List ℕ) (part : Part) → IsLayout l → AreCounted types → slice_get types ty ≡ Some (Struct members)
     → part_of types (Some (Struct members)) leaf ≡ Some part → Lies l types ty leaf (Some (Struct members)) part
 lies_struct l types ty leaf members part is formed at h =
     let m : MemberIs (leaves_of types) members 0 0 leaf part = member_is (leaves_of types) members 0 0 leaf part (omega arith) h in
@@ -113,14 +113,14 @@ lies_struct l types ty leaf members part is formed at h =
       bound = subst (λ i. get_or (member_places (extent_of l types) 0 members) i 0 ≤ 8 * part.first) (sym index) (omega (arith, p, m.begins));
     }
 
-lies_option : (l : Layout) (types : List Ty) (ty leaf : ℕ) (o : Option Ty) (part : Part) → IsLayout l → AreFormed types → slice_get types ty ≡ o → part_of types o leaf ≡ Some part → Lies l types ty leaf o part
+lies_option : (l : Layout) (types : List Ty) (ty leaf : ℕ) (o : Option Ty) (part : Part) → IsLayout l → AreCounted types → slice_get types ty ≡ o → part_of types o leaf ≡ Some part → Lies l types ty leaf o part
 lies_option l types ty leaf None part is formed at h = cc
 lies_option l types ty leaf (Some (Whole kind)) part is formed at h = cc
 lies_option l types ty leaf (Some (Pointer to)) part is formed at h = cc
 lies_option l types ty leaf (Some (Array of n)) part is formed at h = lies_array l types ty leaf of n part is formed at h
 lies_option l types ty leaf (Some (Struct members)) part is formed at h = lies_struct l types ty leaf members part is formed at h
 
-pub lies : (l : Layout) (types : List Ty) (ty leaf : ℕ) (part : Part) → IsLayout l → AreFormed types → part_at types ty leaf ≡ Some part → Lies l types ty leaf (slice_get types ty) part
+pub lies : (l : Layout) (types : List Ty) (ty leaf : ℕ) (part : Part) → IsLayout l → AreCounted types → part_at types ty leaf ≡ Some part → Lies l types ty leaf (slice_get types ty) part
 lies l types ty leaf part is formed h = lies_option l types ty leaf (slice_get types ty) part is formed refl h
 
 same_option : (l : Layout) (types : List Ty) (n m ty leaf : ℕ) (o : Option Part) → ((part : Part) → o ≡ Some part → place_within n l types part.ty (leaf - part.first) ≡ place_within m l types part.ty (leaf - part.first))
@@ -130,7 +130,7 @@ same_option l types n m ty leaf None e = refl
 same_option l types n m ty leaf (Some part) e = ap (λ x. part_place (extent_of l types) (slice_get types ty) part.index + x) (e part refl)
 
 -- a descent that may go deeper comes to the same place
-pub place_same : (l : Layout) (types : List Ty) (n m ty leaf : ℕ) → IsLayout l → AreFormed types → ty < n → ty < m → place_within n l types ty leaf ≡ place_within m l types ty leaf
+pub place_same : (l : Layout) (types : List Ty) (n m ty leaf : ℕ) → IsLayout l → AreCounted types → ty < n → ty < m → place_within n l types ty leaf ≡ place_within m l types ty leaf
 place_same l types zero m ty leaf is formed a b = absurd (omega (arith, a))
 place_same l types (suc n) zero ty leaf is formed a b = absurd (omega (arith, b))
 place_same l types (suc n) (suc m) ty leaf is formed a b =
@@ -138,7 +138,7 @@ place_same l types (suc n) (suc m) ty leaf is formed a b =
     (λ part h. let d : Lies l types ty leaf (slice_get types ty) part = lies l types ty leaf part is formed h in
     place_same l types n m part.ty (leaf - part.first) is formed (omega (arith, a, d.holds.earlier)) (omega (arith, b, d.holds.earlier)))
 
-pub place_down : (l : Layout) (types : List Ty) (ty leaf : ℕ) (part : Part) → IsLayout l → AreFormed types → part_at types ty leaf ≡ Some part
+pub place_down : (l : Layout) (types : List Ty) (ty leaf : ℕ) (part : Part) → IsLayout l → AreCounted types → part_at types ty leaf ≡ Some part
     → place_within (suc ty) l types ty leaf ≡ part_place (extent_of l types) (slice_get types ty) part.index + place_within (suc part.ty) l types part.ty (leaf - part.first)
 place_down l types ty leaf part is formed h =
     let d : Lies l types ty leaf (slice_get types ty) part = lies l types ty leaf part is formed h in

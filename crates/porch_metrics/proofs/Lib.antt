@@ -1,4 +1,6 @@
 pub mod Extended
+pub mod Multiples
+pub mod Counted
 pub mod Bounds
 pub mod Measuring
 pub mod Descending

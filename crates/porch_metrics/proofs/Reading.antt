@@ -1,19 +1,19 @@
 -- What a table says of each type.
 use Rattle.std.proofs.Common.{◌≡◌, ℕ, suc, ◌+◌, ◌*◌, ◌/◌, ◌%◌, ◌^◌, ◌<◌, ◌≤◌, List, [], ◌∷◌, length, get_or, slice_get, Option, Some, None, refl, arith, ap, sym, ◌∙◌, subst}
 use Rattle.std.proofs.lemmas.Option.{slice_get_read, slice_get_within}
+use Rattle.std.proofs.lemmas.List.{length-map}
 use Rattle.std.proofs.lemmas.Nat.{div-add-mod'}
 use Rattle.porch_types.specs.declared.shapes.Ty.{Ty}
 use Rattle.porch_types.specs.declared.shapes.Ty.TheVariants.{Whole, Pointer, Array, Struct}
 use Rattle.porch_types.specs.declared.parts.Part.{Part}
-use Rattle.porch_types.specs.Leaves.{leaves_of, AreFormed}
+use Rattle.porch_types.specs.Leaves.{leaves_of}
 use Rattle.porch_types.specs.Rows.{part_at, part_of}
-use Rattle.porch_types.proofs.Putting.{length-mapped}
 use Rattle.porch_layout.specs.declared.layout.Layout.{Layout}
 use Rattle.porch_metrics.specs.declared.table.Measured.{Measured}
 use Rattle.porch_metrics.specs.declared.table.Table.{Table}
 use Rattle.porch_metrics.specs.Extents.{Extent, round_up, extent_of, member_places}
 use Rattle.porch_metrics.specs.Places.{part_place, place_of, place_within}
-use Rattle.porch_metrics.specs.Tables.{extent, IsTable, IsMember}
+use Rattle.porch_metrics.specs.Tables.{AreCounted, extent, IsTable, IsMember}
 use Rattle.porch_metrics.proofs.Extended.{length-extents}
 use Rattle.porch_metrics.proofs.Bounds.{IsBounded, bounded, array_bound}
 use Rattle.porch_metrics.proofs.Measuring.{few_leaves, parts_few}
@@ -21,7 +21,7 @@ use Rattle.porch_metrics.proofs.Descending.{Lies, lies, MemberIs, member_is}
 
 pub measured_len : (types : List Ty) (table : Table) → IsTable types table → length table.measured.items ≡ length types
 measured_len types table is =
-    omega (arith, length-mapped extent table.measured.items, ap length is.measured.extents, length-extents table.layout [] types)
+    omega (arith, length-map table.measured.items extent, ap length is.measured.extents, length-extents table.layout [] types)
 
 length-places : (f : ℕ → Extent) (end : ℕ) (ms : List ℕ) → length (member_places f end ms) ≡ length ms
 length-places f end [] = refl
@@ -53,11 +53,11 @@ place_at types table ty index m is known member at =
     let places : m.places.items ≡ member_places e 0 s.members = is.measured.placed ty (Struct s.members) m s.is found in
     record {
       within = omega (arith, ap length places, length-places e 0 s.members, s.within);
-      few = omega (arith, s.within, parts_few types ty (Struct s.members) is.formed.formed s.is);
+      few = omega (arith, s.within, parts_few types ty (Struct s.members) is.counted s.is);
       place = ap (λ xs. get_or xs index 0) places ∙ ap (λ o. part_place e o index) (sym s.is);
     }
 
-pub array_known : (types : List Ty) (ty of count : ℕ) → AreFormed types → slice_get types ty ≡ Some (Array of count) → of < length types
+pub array_known : (types : List Ty) (ty of count : ℕ) → AreCounted types → slice_get types ty ≡ Some (Array of count) → of < length types
 array_known types ty of count formed at =
     let earlier : of < ty = (formed.each ty (Array of count) at).earlier 0 0 (omega arith) in
     omega (arith, earlier, slice_get_within types ty (Array of count) at)
@@ -65,8 +65,8 @@ array_known types ty of count formed at =
 pub near : (types : List Ty) (table : Table) (ty leaf : ℕ) (part : Part) → IsTable types table → ty < length types → leaf < leaves_of types ty → part_at types ty leaf ≡ Some part
     → part_place (extent_of table.layout types) (slice_get types ty) part.index < 2 ^ 23
 near types table ty leaf part is known lt at =
-    let d : Lies table.layout types ty leaf (slice_get types ty) part = lies table.layout types ty leaf part is.layout is.formed.formed at in
-    omega (arith, d.bound, d.holds.below, lt, few_leaves types ty is.formed.formed known)
+    let d : Lies table.layout types ty leaf (slice_get types ty) part = lies table.layout types ty leaf part is.layout is.counted at in
+    omega (arith, d.bound, d.holds.below, lt, few_leaves types ty is.counted known)
 
 pub array_near : (types : List Ty) (table : Table) (ty leaf of count : ℕ) (part : Part) → IsTable types table → ty < length types → leaf < leaves_of types ty → part_at types ty leaf ≡ Some part
     → slice_get types ty ≡ Some (Array of count) → part.index * (extent_of table.layout types of).size < 2 ^ 23
@@ -85,7 +85,7 @@ pub before_bound : (types : List Ty) (table : Table) (ty leaf : ℕ) → IsTable
     → leaf / leaves_of types ty * (extent_of table.layout types ty).size + 8 * (leaf % leaves_of types ty) ≤ 8 * leaf
 before_bound types table ty leaf is known =
     let l = leaves_of types ty in
-    let b : IsBounded (extent_of table.layout types ty) l = bounded table.layout types ty is.layout is.formed.formed known in
+    let b : IsBounded (extent_of table.layout types ty) l = bounded table.layout types ty is.layout is.counted known in
     omega (arith, array_bound (leaf / l) (extent_of table.layout types ty).size l b.size, div-add-mod' leaf l)
 
 pub place_begins : (l : Layout) (types : List Ty) (ty leaf leaves size : ℕ) → leaves ≡ leaves_of types ty → size ≡ (extent_of l types ty).size

@@ -10,13 +10,13 @@ use Rattle.porch_types.specs.declared.shapes.Kind.TheVariants.{Char, UChar, Shor
 use Rattle.porch_types.specs.declared.shapes.Ty.{Ty}
 use Rattle.porch_types.specs.declared.shapes.Ty.TheVariants.{Whole, Pointer, Array, Struct}
 use Rattle.porch_types.specs.declared.parts.Part.{Part}
-use Rattle.porch_types.specs.Leaves.{parts_of, leaves_together, leaf_count, leaves_of, AreFormed, IsFormed}
+use Rattle.porch_types.specs.Leaves.{parts_of, leaves_together, leaf_count, leaves_of, IsFormed}
 use Rattle.porch_types.specs.Rows.{part_at, part_of, element_at, member_at}
-use Rattle.porch_types.proofs.Counts.{leaves_is, leaves_some}
 use Rattle.porch_layout.specs.declared.layout.Layout.{Layout}
 use Rattle.porch_layout.specs.Layouts.{IsLayout, IsSize}
 use Rattle.porch_metrics.specs.Extents.{Extent, kind_extent, round_up, greatest_align, member_places, members_end, type_extent, extent_of}
 use Rattle.porch_metrics.specs.Places.{part_place, place_within, place_of}
+use Rattle.porch_metrics.specs.Tables.{AreCounted}
 use Rattle.porch_metrics.proofs.Extended.{extent_is}
 use Rattle.porch_metrics.proofs.Bounds.{IsPower, bounded}
 use Rattle.porch_metrics.proofs.Descending.{MemberIs, member_is, ElementIs, element_is, Lies, lies}
@@ -73,24 +73,24 @@ together_apart f (o ∷ ms) i zero m lt within at = absurd (omega (arith, lt))
 together_apart f (o ∷ ms) zero (suc j) m lt within at = let e : f o ≡ f m = cc in omega (arith, e)
 together_apart f (o ∷ ms) (suc i) (suc j) m lt within at = omega (arith, together_apart f ms i j m (omega (arith, lt)) (omega (arith, within)) at)
 
-powers : (l : Layout) (types : List Ty) (ty : ℕ) (members : List ℕ) → IsLayout l → AreFormed types → slice_get types ty ≡ Some (Struct members) → Powers (extent_of l types) members
+powers : (l : Layout) (types : List Ty) (ty : ℕ) (members : List ℕ) → IsLayout l → AreCounted types → slice_get types ty ≡ Some (Struct members) → Powers (extent_of l types) members
 powers l types ty members is formed at = λ k d lt.
     let below : get_or members k d < ty = (formed.each ty (Struct members) at).earlier k d lt in
     (bounded l types (get_or members k d) is formed (omega (arith, below, slice_get_within types ty (Struct members) at))).power
 
 -- where a part ends is at most the size of its whole
-inside_array : (l : Layout) (types : List Ty) (ty leaf of n : ℕ) (part : Part) → IsLayout l → AreFormed types → slice_get types ty ≡ Some (Array of n) → part_of types (Some (Array of n)) leaf ≡ Some part
+inside_array : (l : Layout) (types : List Ty) (ty leaf of n : ℕ) (part : Part) → IsLayout l → AreCounted types → slice_get types ty ≡ Some (Array of n) → part_of types (Some (Array of n)) leaf ≡ Some part
     → part.index * (extent_of l types of).size + (extent_of l types part.ty).size ≤ (extent_of l types ty).size
 inside_array l types ty leaf of n part is formed at h =
     let f : IsFormed types ty (Array of n) = formed.each ty (Array of n) at in
     let earlier : of < ty = f.earlier 0 0 (omega arith) in
     let within : of < length types = omega (arith, earlier, slice_get_within types ty (Array of n) at) in
-    let e : ElementIs of (leaves_of types of) n leaf part = element_is of (leaves_of types of) n leaf part (leaves_some types of formed within) h in
+    let e : ElementIs of (leaves_of types of) n leaf part = element_is of (leaves_of types of) n leaf part (formed.some of within) h in
     let size : (extent_of l types ty).size ≡ n * (extent_of l types of).size = ap (λ (x : Extent). x.size) (extent_is l types ty (Array of n) f.earlier at) in
     let own : (extent_of l types part.ty).size ≡ (extent_of l types of).size = ap (λ x. (extent_of l types x).size) e.ty in
     omega (arith, times_apart part.index n (extent_of l types of).size e.index, size, own)
 
-inside_struct : (l : Layout) (types : List Ty) (ty leaf : ℕ) (members : List ℕ) (part : Part) → IsLayout l → AreFormed types → slice_get types ty ≡ Some (Struct members)
+inside_struct : (l : Layout) (types : List Ty) (ty leaf : ℕ) (members : List ℕ) (part : Part) → IsLayout l → AreCounted types → slice_get types ty ≡ Some (Struct members)
     → part_of types (Some (Struct members)) leaf ≡ Some part
     → get_or (member_places (extent_of l types) 0 members) part.index 0 + (extent_of l types part.ty).size ≤ (extent_of l types ty).size
 inside_struct l types ty leaf members part is formed at h =
@@ -106,7 +106,7 @@ inside_struct l types ty leaf members part is formed at h =
     let moved : get_or (member_places e 0 members) part.index 0 ≡ get_or (member_places e 0 members) m.i 0 = ap (λ i. get_or (member_places e 0 members) i 0) index in
     omega (arith, inside, moved, size, round_ge (members_end e 0 members) (greatest_align e l.least_struct members) power)
 
-inside_option : (l : Layout) (types : List Ty) (ty leaf : ℕ) (o : Option Ty) (part : Part) → IsLayout l → AreFormed types → slice_get types ty ≡ o → part_of types o leaf ≡ Some part
+inside_option : (l : Layout) (types : List Ty) (ty leaf : ℕ) (o : Option Ty) (part : Part) → IsLayout l → AreCounted types → slice_get types ty ≡ o → part_of types o leaf ≡ Some part
     → part_place (extent_of l types) o part.index + (extent_of l types part.ty).size ≤ (extent_of l types ty).size
 inside_option l types ty leaf None part is formed at h = cc
 inside_option l types ty leaf (Some (Whole kind)) part is formed at h = cc
@@ -114,7 +114,7 @@ inside_option l types ty leaf (Some (Pointer to)) part is formed at h = cc
 inside_option l types ty leaf (Some (Array of n)) part is formed at h = inside_array l types ty leaf of n part is formed at h
 inside_option l types ty leaf (Some (Struct members)) part is formed at h = inside_struct l types ty leaf members part is formed at h
 
-pub part_inside : (l : Layout) (types : List Ty) (ty leaf : ℕ) (part : Part) → IsLayout l → AreFormed types → part_at types ty leaf ≡ Some part
+pub part_inside : (l : Layout) (types : List Ty) (ty leaf : ℕ) (part : Part) → IsLayout l → AreCounted types → part_at types ty leaf ≡ Some part
     → part_place (extent_of l types) (slice_get types ty) part.index + (extent_of l types part.ty).size ≤ (extent_of l types ty).size
 part_inside l types ty leaf part is formed h = inside_option l types ty leaf (slice_get types ty) part is formed refl h
 
@@ -174,7 +174,7 @@ type_multiple l f (Array of n) is a = times_multiple n (f of).size (f of).align 
 type_multiple l f (Struct members) is a =
     record { q = (members_end f 0 members + (greatest_align f l.least_struct members - 1)) / greatest_align f l.least_struct members; is = refl }
 
-multiple_below : (l : Layout) (types : List Ty) → IsLayout l → AreFormed types → (bound n : ℕ) → n < bound → n < length types → Multiple (extent_of l types n).size (extent_of l types n).align
+multiple_below : (l : Layout) (types : List Ty) → IsLayout l → AreCounted types → (bound n : ℕ) → n < bound → n < length types → Multiple (extent_of l types n).size (extent_of l types n).align
 multiple_below l types is formed zero n lt within = absurd (omega (arith, lt))
 multiple_below l types is formed (suc bound) n lt within =
     let ty : Ty = get_or types n (Pointer 0) in
@@ -185,7 +185,7 @@ multiple_below l types is formed (suc bound) n lt within =
     multiple_below l types is formed bound (get_or (parts_of ty) k d) (omega (arith, e, lt)) (omega (arith, e, within)) in
     subst (λ (e : Extent). Multiple e.size e.align) (sym (extent_is l types n ty f.earlier at)) (type_multiple l (extent_of l types) ty is parts)
 
-first_option : (l : Layout) (types : List Ty) (n ty : ℕ) (o : Option Part) → IsLayout l → AreFormed types → part_at types ty 0 ≡ o
+first_option : (l : Layout) (types : List Ty) (n ty : ℕ) (o : Option Part) → IsLayout l → AreCounted types → part_at types ty 0 ≡ o
     → ((t : ℕ) → place_within n l types t 0 ≡ 0)
     → option_map_or (λ part. part_place (extent_of l types) (slice_get types ty) part.index + place_within n l types part.ty (0 - part.first)) o 0 ≡ 0
 first_option l types n ty None is formed at e = refl
@@ -198,15 +198,15 @@ first_option l types n ty (Some part) is formed at e =
     ∙ omega (arith, p)
 
 -- a type begins where its first leaf does
-first_leaf : (l : Layout) (types : List Ty) (n ty : ℕ) → IsLayout l → AreFormed types → place_within n l types ty 0 ≡ 0
+first_leaf : (l : Layout) (types : List Ty) (n ty : ℕ) → IsLayout l → AreCounted types → place_within n l types ty 0 ≡ 0
 first_leaf l types zero ty is formed = refl
 first_leaf l types (suc n) ty is formed = first_option l types n ty (part_at types ty 0) is formed refl (λ t. first_leaf l types n t is formed)
 
-pub element_place : (l : Layout) (types : List Ty) (ty k : ℕ) → IsLayout l → AreFormed types → ty < length types → place_of l types ty (k * leaves_of types ty) ≡ k * (extent_of l types ty).size
+pub element_place : (l : Layout) (types : List Ty) (ty k : ℕ) → IsLayout l → AreCounted types → ty < length types → place_of l types ty (k * leaves_of types ty) ≡ k * (extent_of l types ty).size
 element_place l types ty k is formed known =
     let n = leaves_of types ty in
     let s = (extent_of l types ty).size in
-    let some : 0 < n = leaves_some types ty formed known in
+    let some : 0 < n = formed.some ty known in
     let e : k * n + 0 ≡ k * n = omega arith in
     let q : k * n / n ≡ k = subst (λ x. x / n ≡ k) e (div-mul-add k n 0 some) in
     let r : k * n % n ≡ 0 = mul-mod_left k n in
@@ -216,7 +216,7 @@ element_place l types ty k is formed known =
     ∙ omega arith
 
 -- each element stands at a multiple of its alignment
-pub element_aligned : (l : Layout) (types : List Ty) (ty k : ℕ) → IsLayout l → AreFormed types → ty < length types → place_of l types ty (k * leaves_of types ty) % (extent_of l types ty).align ≡ 0
+pub element_aligned : (l : Layout) (types : List Ty) (ty k : ℕ) → IsLayout l → AreCounted types → ty < length types → place_of l types ty (k * leaves_of types ty) % (extent_of l types ty).align ≡ 0
 element_aligned l types ty k is formed known =
     let e = extent_of l types ty in
     let m : Multiple e.size e.align = multiple_below l types is formed (suc ty) ty (omega arith) known in
@@ -240,7 +240,7 @@ size_some_kind l ULong is = size_some_is l.long is.long
 product_some : (n s : ℕ) → 0 < n → 0 < s → 0 < n * s
 product_some n s a b = grind arith
 
-struct_some : (l : Layout) (types : List Ty) (ty : ℕ) (members : List ℕ) → IsLayout l → AreFormed types → slice_get types ty ≡ Some (Struct members)
+struct_some : (l : Layout) (types : List Ty) (ty : ℕ) (members : List ℕ) → IsLayout l → AreCounted types → slice_get types ty ≡ Some (Struct members)
     → ((p : ℕ) → p < ty → 0 < (extent_of l types p).size) → 0 < round_up (members_end (extent_of l types) 0 members) (greatest_align (extent_of l types) l.least_struct members)
 struct_some l types ty members is formed at each =
     let f : IsFormed types ty (Struct members) = formed.each ty (Struct members) at in
@@ -253,7 +253,7 @@ struct_some l types ty members is formed at each =
     let power : IsPower (greatest_align e l.least_struct members) = subst IsPower align (bounded l types ty is formed (slice_get_within types ty (Struct members) at)).power in
     omega (arith, some, inside, round_ge (members_end e 0 members) (greatest_align e l.least_struct members) power)
 
-size_some_type : (l : Layout) (types : List Ty) (n : ℕ) (ty : Ty) → IsLayout l → AreFormed types → slice_get types n ≡ Some ty → ((p : ℕ) → p < n → 0 < (extent_of l types p).size)
+size_some_type : (l : Layout) (types : List Ty) (n : ℕ) (ty : Ty) → IsLayout l → AreCounted types → slice_get types n ≡ Some ty → ((p : ℕ) → p < n → 0 < (extent_of l types p).size)
     → 0 < (type_extent l (extent_of l types) ty).size
 size_some_type l types n (Whole kind) is formed at each = size_some_kind l kind is
 size_some_type l types n (Pointer to) is formed at each = size_some_is l.pointer is.pointer
@@ -262,7 +262,7 @@ size_some_type l types n (Array of count) is formed at each =
     product_some count (extent_of l types of).size f.occupied (each of (f.earlier 0 0 (omega arith)))
 size_some_type l types n (Struct members) is formed at each = struct_some l types n members is formed at each
 
-size_some_below : (l : Layout) (types : List Ty) → IsLayout l → AreFormed types → (bound n : ℕ) → n < bound → n < length types → 0 < (extent_of l types n).size
+size_some_below : (l : Layout) (types : List Ty) → IsLayout l → AreCounted types → (bound n : ℕ) → n < bound → n < length types → 0 < (extent_of l types n).size
 size_some_below l types is formed zero n lt within = absurd (omega (arith, lt))
 size_some_below l types is formed (suc bound) n lt within =
     let ty : Ty = get_or types n (Pointer 0) in
@@ -271,17 +271,17 @@ size_some_below l types is formed (suc bound) n lt within =
     (size_some_type l types n ty is formed at (λ p h. size_some_below l types is formed bound p (omega (arith, h, lt)) (omega (arith, h, within))))
 
 -- each type has a byte
-size_some : (l : Layout) (types : List Ty) (n : ℕ) → IsLayout l → AreFormed types → n < length types → 0 < (extent_of l types n).size
+size_some : (l : Layout) (types : List Ty) (n : ℕ) → IsLayout l → AreCounted types → n < length types → 0 < (extent_of l types n).size
 size_some l types n is formed within = size_some_below l types is formed (suc n) n (omega arith) within
 
-less_option : (l : Layout) (types : List Ty) (n ty leaf : ℕ) (o : Option Part) → IsLayout l → AreFormed types → ty < length types → part_at types ty leaf ≡ o
+less_option : (l : Layout) (types : List Ty) (n ty leaf : ℕ) (o : Option Part) → IsLayout l → AreCounted types → ty < length types → part_at types ty leaf ≡ o
     → ((part : Part) → part_at types ty leaf ≡ Some part → place_within n l types part.ty (leaf - part.first) < (extent_of l types part.ty).size)
     → option_map_or (λ part. part_place (extent_of l types) (slice_get types ty) part.index + place_within n l types part.ty (leaf - part.first)) o 0 < (extent_of l types ty).size
 less_option l types n ty leaf None is formed known at e = size_some l types ty is formed known
 less_option l types n ty leaf (Some part) is formed known at e = omega (arith, e part at, part_inside l types ty leaf part is formed at)
 
 -- a leaf begins inside its type
-less : (l : Layout) (types : List Ty) (n ty leaf : ℕ) → IsLayout l → AreFormed types → ty < length types → place_within n l types ty leaf < (extent_of l types ty).size
+less : (l : Layout) (types : List Ty) (n ty leaf : ℕ) → IsLayout l → AreCounted types → ty < length types → place_within n l types ty leaf < (extent_of l types ty).size
 less l types zero ty leaf is formed known = size_some l types ty is formed known
 less l types (suc n) ty leaf is formed known =
     less_option l types n ty leaf (part_at types ty leaf) is formed known refl
@@ -320,7 +320,7 @@ struct_order : (f : ℕ → ℕ) (ms : List ℕ) (i j m a b first : ℕ) → i <
     → b < leaves_together f (take j ms) + f m → j < i → ⊥
 struct_order f ms i j m a b first within at is low lt high back = omega (arith, together_apart f ms j i m back within at, is, low, lt, high)
 
-apart_struct : (l : Layout) (types : List Ty) (ty : ℕ) (members : List ℕ) (a b : ℕ) (pa pb : Part) → IsLayout l → AreFormed types → slice_get types ty ≡ Some (Struct members)
+apart_struct : (l : Layout) (types : List Ty) (ty : ℕ) (members : List ℕ) (a b : ℕ) (pa pb : Part) → IsLayout l → AreCounted types → slice_get types ty ≡ Some (Struct members)
     → MemberIs (leaves_of types) members 0 0 a pa → MemberIs (leaves_of types) members 0 0 b pb → a < b
     → OnePart pa pb ⊎ (get_or (member_places (extent_of l types) 0 members) pa.index 0 + (extent_of l types pa.ty).size ≤ get_or (member_places (extent_of l types) 0 members) pb.index 0)
 apart_struct l types ty members a b pa pb is formed at x y lt =
@@ -348,7 +348,7 @@ apart_struct l types ty members a b pa pb is formed at x y lt =
           inl (record { ty = ty_is; first = omega (arith, x.begins, y.begins, first); index = omega (arith, ia, ib, same) })
     ] refl
 
-apart_option : (l : Layout) (types : List Ty) (ty a b : ℕ) (o : Option Ty) (pa pb : Part) → IsLayout l → AreFormed types → slice_get types ty ≡ o → part_of types o a ≡ Some pa → part_of types o b ≡ Some pb → a < b
+apart_option : (l : Layout) (types : List Ty) (ty a b : ℕ) (o : Option Ty) (pa pb : Part) → IsLayout l → AreCounted types → slice_get types ty ≡ o → part_of types o a ≡ Some pa → part_of types o b ≡ Some pb → a < b
     → OnePart pa pb ⊎ (part_place (extent_of l types) o pa.index + (extent_of l types pa.ty).size ≤ part_place (extent_of l types) o pb.index)
 apart_option l types ty a b None pa pb is formed at h k lt = cc
 apart_option l types ty a b (Some (Whole kind)) pa pb is formed at h k lt = cc
@@ -356,7 +356,7 @@ apart_option l types ty a b (Some (Pointer to)) pa pb is formed at h k lt = cc
 apart_option l types ty a b (Some (Array of n)) pa pb is formed at h k lt =
     let earlier : of < ty = (formed.each ty (Array of n) at).earlier 0 0 (omega arith) in
     let within : of < length types = omega (arith, earlier, slice_get_within types ty (Array of n) at) in
-    let some : 0 < leaves_of types of = leaves_some types of formed within in
+    let some : 0 < leaves_of types of = formed.some of within in
     apart_array l types of n a b pa pb (element_is of (leaves_of types of) n a pa some h) (element_is of (leaves_of types of) n b pb some k) lt
 apart_option l types ty a b (Some (Struct members)) pa pb is formed at h k lt =
     apart_struct l types ty members a b pa pb is formed at (member_is (leaves_of types) members 0 0 a pa (omega arith) h) (member_is (leaves_of types) members 0 0 b pb (omega arith) k) lt
@@ -376,21 +376,21 @@ element_total of s n place some lt =
     let h : place / s < n = (div-lt_iff_lt-mul some).1 lt in
     (record { ty = of; index = place / s; first = place / s * s; row = record { first = 0; len = n } }, rw (lt-ltb (place / s) n h) refl)
 
-total_type : (types : List Ty) (ty leaf : ℕ) (t : Ty) → AreFormed types → slice_get types ty ≡ Some t → 1 < leaf_count (leaves_of types) t → leaf < leaf_count (leaves_of types) t
+total_type : (types : List Ty) (ty leaf : ℕ) (t : Ty) → AreCounted types → slice_get types ty ≡ Some t → 1 < leaf_count (leaves_of types) t → leaf < leaf_count (leaves_of types) t
     → (part : Part) × (part_of types (Some t) leaf ≡ Some part)
 total_type types ty leaf (Whole kind) formed at many lt = absurd (omega (arith, many))
 total_type types ty leaf (Pointer to) formed at many lt = absurd (omega (arith, many))
 total_type types ty leaf (Array of n) formed at many lt =
     let earlier : of < ty = (formed.each ty (Array of n) at).earlier 0 0 (omega arith) in
-    element_total of (leaves_of types of) n leaf (leaves_some types of formed (omega (arith, earlier, slice_get_within types ty (Array of n) at))) lt
+    element_total of (leaves_of types of) n leaf (formed.some of (omega (arith, earlier, slice_get_within types ty (Array of n) at))) lt
 total_type types ty leaf (Struct members) formed at many lt = member_total (leaves_of types) members 0 0 leaf (omega arith) (omega (arith, lt))
 
 -- each leaf of a type with several is held by a part
-total : (types : List Ty) (ty leaf : ℕ) → AreFormed types → ty < length types → 1 < leaves_of types ty → leaf < leaves_of types ty → (part : Part) × (part_at types ty leaf ≡ Some part)
+total : (types : List Ty) (ty leaf : ℕ) → AreCounted types → ty < length types → 1 < leaves_of types ty → leaf < leaves_of types ty → (part : Part) × (part_at types ty leaf ≡ Some part)
 total types ty leaf formed known many lt =
     let t : Ty = get_or types ty (Pointer 0) in
     let at : slice_get types ty ≡ Some t = slice_get-get_or types ty (Pointer 0) known in
-    let e : leaves_of types ty ≡ leaf_count (leaves_of types) t = leaves_is types ty t (formed.each ty t at).earlier at in
+    let e : leaves_of types ty ≡ leaf_count (leaves_of types) t = formed.together ty t at in
     let p : (part : Part) × (part_of types (Some t) leaf ≡ Some part) = total_type types ty leaf t formed at (omega (arith, e, many)) (omega (arith, e, lt)) in
     (p.0, ap (λ o. part_of types o leaf) at ∙ p.1)
 
@@ -416,14 +416,14 @@ rise_one l types n ty a b pa pb rises x y known deep lt one =
     ap (λ t. place_within n l types t (b - pa.first)) one.ty ∙ ap (λ x. place_within n l types pb.ty (b - x)) one.first in
     omega (arith, up, p, q)
 
-rise_two : (l : Layout) (types : List Ty) (n ty a b : ℕ) (pa pb : Part) → IsLayout l → AreFormed types → Lies l types ty a (slice_get types ty) pa → ty < length types
+rise_two : (l : Layout) (types : List Ty) (n ty a b : ℕ) (pa pb : Part) → IsLayout l → AreCounted types → Lies l types ty a (slice_get types ty) pa → ty < length types
     → part_place (extent_of l types) (slice_get types ty) pa.index + (extent_of l types pa.ty).size ≤ part_place (extent_of l types) (slice_get types ty) pb.index
     → part_place (extent_of l types) (slice_get types ty) pa.index + place_within n l types pa.ty (a - pa.first)
     < part_place (extent_of l types) (slice_get types ty) pb.index + place_within n l types pb.ty (b - pb.first)
 rise_two l types n ty a b pa pb is formed x known apart =
     omega (arith, apart, less l types n pa.ty (a - pa.first) is formed (omega (arith, x.holds.earlier, known)))
 
-rise : (l : Layout) (types : List Ty) (n : ℕ) → IsLayout l → AreFormed types → Rises l types n
+rise : (l : Layout) (types : List Ty) (n : ℕ) → IsLayout l → AreCounted types → Rises l types n
 rise l types zero is formed ty a b known deep lt within = absurd (omega (arith, deep))
 rise l types (suc n) is formed ty a b known deep lt within =
     let pa = total types ty a formed known (omega (arith, lt, within)) (omega (arith, lt, within)) in
@@ -449,10 +449,10 @@ rows_rise q r s p t same apart le =
     ] refl
 
 -- places rise with leaves
-pub places_rise_from : (l : Layout) (types : List Ty) (ty a b : ℕ) → IsLayout l → AreFormed types → ty < length types → a < b → place_of l types ty a < place_of l types ty b
+pub places_rise_from : (l : Layout) (types : List Ty) (ty a b : ℕ) → IsLayout l → AreCounted types → ty < length types → a < b → place_of l types ty a < place_of l types ty b
 places_rise_from l types ty a b is formed known lt =
     let n = leaves_of types ty in
-    let some : 0 < n = leaves_some types ty formed known in
+    let some : 0 < n = formed.some ty known in
     let ea : a / n * n + a % n ≡ a = div-add-mod' a n in
     let eb : b / n * n + b % n ≡ b = div-add-mod' b n in
     let ra : a % n < n = omega (arith, some) in

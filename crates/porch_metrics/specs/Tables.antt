@@ -2,7 +2,7 @@
 use Rattle.std.specs.Prelude.{◌≡◌, ℕ, ◌<◌, ◌≤◌, List, [], length, slice_get, Option, Some, None, map}
 use Rattle.porch_types.specs.declared.shapes.Ty.{Ty}
 use Rattle.porch_types.specs.declared.shapes.Ty.TheVariants.{Whole, Pointer, Array, Struct}
-use Rattle.porch_types.specs.Leaves.{IsTypes}
+use Rattle.porch_types.specs.Leaves.{IsFormed, leaf_count, leaves_of}
 use Rattle.porch_layout.specs.declared.layout.Layout.{Layout}
 use Rattle.porch_layout.specs.Layouts.{IsLayout}
 use Rattle.porch_metrics.specs.declared.table.Measured.{Measured}
@@ -26,6 +26,12 @@ pub record IsSmall (e : Extent) : Type 0 where
   pub some : 0 < e.align
   pub align : e.align ≤ 8
 
+-- each type of a list is well formed, has the leaves of its parts together, and at least one
+pub record AreCounted (types : List Ty) : Type 0 where
+  pub each : (number : ℕ) (ty : Ty) → slice_get types number ≡ Some ty → IsFormed types number ty
+  pub together : (number : ℕ) (ty : Ty) → slice_get types number ≡ Some ty → leaves_of types number ≡ leaf_count (leaves_of types) ty
+  pub some : (number : ℕ) → number < length types → 0 < leaves_of types number
+
 -- these are the measures of the first types
 pub record AreMeasured (under : Layout) (types : List Ty) (measured : List Measured) : Type 0 where
   pub extents : map extent measured ≡ extents_of under types
@@ -34,7 +40,7 @@ pub record AreMeasured (under : Layout) (types : List Ty) (measured : List Measu
 
 -- a table of the measures of these types
 pub record IsTable (types : List Ty) (table : Table) : Type 0 where
-  pub formed : IsTypes types
+  pub counted : AreCounted types
   pub layout : IsLayout table.layout
   pub measured : AreMeasured table.layout types table.measured.items
 

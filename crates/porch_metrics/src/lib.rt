@@ -8,7 +8,7 @@ mod metrics;
 mod rounding;
 mod table;
 
-pub use laws::{elements_are_aligned, parts_lie_inside, places_rise};
+pub use laws::{elements_are_aligned, parts_lie_inside, places_rise, rounding_up_is_least};
 pub use metrics::Metrics;
 
 #[cfg(test)]

@@ -6,7 +6,7 @@ ghost use Rattle.porch_metrics.specs.Tables.{extent, places_of, AreMeasured, IsS
 
 use crate::rounding::rounded_up;
 use porch_layout::Layout;
-use porch_types::{Kind, Ty, Types};
+use porch_types::{Kind, Ty, Types, leaves_add_up};
 use std::alloc::{AllocError, Global};
 
 /// The size and alignment of a type in bytes, and where each member of a struct begins.
@@ -142,6 +142,7 @@ pub(crate) fn measure(alloc: Global, types: &Types, layout: &Layout) -> Result<T
     ensures layout { IfOk result (λ table. table.layout ≡ layout.now) }
 {
     let len = types.len();
+    leaves_add_up();
     let mut measured = Vec::with_capacity(alloc, len)?;
     for number in 0..len {
         let ty = types.get(number as u32);

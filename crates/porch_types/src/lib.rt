@@ -4,11 +4,13 @@
 
 mod checks;
 mod entries;
+mod laws;
 mod parts;
 mod search;
 mod shapes;
 mod types;
 
+pub use laws::leaves_add_up;
 pub use parts::{Part, Row};
 pub use shapes::{Kind, Members, Ty};
 pub use types::{TypeFault, Types, subobjects_are_one};

@@ -1,18 +1,23 @@
-use Rattle.std.proofs.Common.{◌≡◌, length}
-use Rattle.toml.specs.View.{table_view}
-use Rattle.toml.specs.Data.{get_member}
-use Rattle.toml.specs.Parse.{parse_document}
-use Rattle.porch_layout.proofs.FileLemmas.{layout_of-tables, tables_of-no, tables_of-parsed, some_bytes, layout_at-allowed, unless_memory}
+use Rattle.porch_layout.proofs.RuleLemmas.{too_long, not_toml, no_name, not_table, unknown_key, missing_key, bad_value}
 use Rattle.porch_layout.proofs.file.layout_from.Goals as goal
 
-pub returns-in_default-clause-answer : goal.returns-in_default-clause-answer
-returns-in_default-clause-answer c =
-    rw (layout_of-tables c.args.text.now c.args.name.now c.if-text-gt-MOST_BYTES.false, tables_of-no c.args.text.now (some_bytes (length c.args.text.now) c.if-is_empty.ensures) c.in_default.ensures.cases.0)
+pub returns-clause-too_long : goal.returns-clause-too_long
+returns-clause-too_long c = too_long c.args.text.now c.args.name.now c.layout_read.result c.layout_read.ensures.answer
 
-pub returns-in-Ok-table_from_str-clause-answer : goal.returns-in-Ok-table_from_str-clause-answer
-returns-in-Ok-table_from_str-clause-answer c =
-    let parsed : parse_document c.args.text.now ≡ _ = rw c.in-Ok.ensures.cases.0 at c.in-Ok-table_from_str.ensures.ok in
-    rw (layout_of-tables c.args.text.now c.args.name.now c.if-text-gt-MOST_BYTES.false, tables_of-parsed c.args.text.now (some_bytes (length c.args.text.now) c.if-is_empty.ensures) c.in-Ok.ensures.cases.1, parsed, ← c.value_at.ensures, ← c.named.ensures) (unless_memory c.named.result)
+pub returns-clause-not_toml : goal.returns-clause-not_toml
+returns-clause-not_toml c = not_toml c.args.text.now c.args.name.now c.layout_read.result c.layout_read.ensures.answer
 
-pub returns-in-Ok-table_from_str-clause-allowed : goal.returns-in-Ok-table_from_str-clause-allowed
-returns-in-Ok-table_from_str-clause-allowed c = rw (c.named.ensures, c.value_at.ensures) (layout_at-allowed (get_member c.args.name.now (table_view c.in-Ok-table_from_str.all)))
+pub returns-clause-no_name : goal.returns-clause-no_name
+returns-clause-no_name c = no_name c.args.text.now c.args.name.now c.layout_read.result c.layout_read.ensures.answer
+
+pub returns-clause-not_table : goal.returns-clause-not_table
+returns-clause-not_table c = not_table c.args.text.now c.args.name.now c.layout_read.result c.layout_read.ensures.answer
+
+pub returns-clause-unknown_key : goal.returns-clause-unknown_key
+returns-clause-unknown_key c = unknown_key c.args.text.now c.args.name.now c.layout_read.result c.layout_read.ensures.answer
+
+pub returns-clause-missing_key : goal.returns-clause-missing_key
+returns-clause-missing_key c = λ key. missing_key c.args.text.now c.args.name.now key c.layout_read.result c.layout_read.ensures.answer
+
+pub returns-clause-bad_value : goal.returns-clause-bad_value
+returns-clause-bad_value c = λ key. bad_value c.args.text.now c.args.name.now key c.layout_read.result c.layout_read.ensures.answer

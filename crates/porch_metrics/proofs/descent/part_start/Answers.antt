@@ -4,7 +4,7 @@ use Rattle.porch_metrics.proofs.descent.part_start.Goals as goal
 
 pub size_at-requires-clause-known : goal.size_at-requires-clause-known
 size_at-requires-clause-known c =
-    array_known c.args.types.now c.args.ty c.in-Array.of c.in-Array.count c.requires.table.formed.formed (c.get.ensures ∙ ap Some c.in-Array.is)
+    array_known c.args.types.now c.args.ty c.in-Array.of c.in-Array.count c.requires.table.counted (c.get.ensures ∙ ap Some c.in-Array.is)
 
 pub overflow_mul-result : goal.overflow_mul-result
 overflow_mul-result c =
