@@ -1,12 +1,13 @@
 -- Which of two files is the newest, and stays it.
 use Rattle.std.proofs.Common.{◌≡◌, ◌≢◌, ◌⊎◌, inl, inr, ℕ, ◌<◌, ◌≤◌, List, ◌∷◌, length, refl, sym, ◌∙◌, ap, subst, arith}
+use Rattle.std.specs.declared.option.Option.{Option}
 use Rattle.porch_edge.specs.declared.disk.FileName.{FileName}
 use Rattle.porch_edge.specs.declared.disk.FileName.TheVariants.{Program, Output, CkA, CkB, Layouts, Input}
 use Rattle.porch_edge.specs.Files.{Files, file_of, with_file}
 use Rattle.porch_store.specs.declared.store.Newest.{Newest}
 use Rattle.porch_store.specs.declared.store.Newest.TheVariants.{Neither, One, Tie}
 use Rattle.porch_store.specs.Checkpoints.{IsOpen, Outranks, IsNewest, number_of}
-use Rattle.porch_store.specs.Stores.{older_of, IsBeyond, OldClosedOrWhole, is_old, is_closed, is_whole, KeepsNewest, IsNew}
+use Rattle.porch_store.specs.Stores.{older_of, newest_number, IsBelow, OldClosedOrWhole, is_old, is_closed, is_whole, KeepsNewest}
 
 same_rank : (a b c d : List ℕ) → c ≡ a → d ≡ b → Outranks a b → Outranks c d
 same_rank a b c d e f ranks = subst (λ x. Outranks x d) (sym e) (subst (λ y. Outranks a y) (sym f) ranks)
@@ -35,6 +36,26 @@ stays (One Output) fs d c x others a b = ap (λ (f : Files). f.ck_b) others ∙ 
 stays (One Layouts) fs d c x others a b = ap (λ (f : Files). f.ck_b) others ∙ b
 stays (One Input) fs d c x others a b = ap (λ (f : Files). f.ck_b) others ∙ b
 stays Tie fs d c x others a b = ap (λ (f : Files). f.ck_b) others ∙ b
+
+-- a number beyond that of each open file
+pub record IsBeyond (number : ℕ) (fs : Files) : Type 0 where
+  pub a : IsOpen fs.ck_a → number_of fs.ck_a < number
+  pub b : IsOpen fs.ck_b → number_of fs.ck_b < number
+
+-- what is beyond the newest is beyond both
+pub beyond_both : (newest : Newest) (fs : Files) (known : Option ℕ) (number : ℕ) → newest ≢ Tie → IsNewest newest fs → known ≡ newest_number newest fs → IsBelow known number → IsBeyond number fs
+beyond_both Neither fs known number no_tie was is below = record { a = λ o. absurd (was.0 o); b = λ o. absurd (was.1 o) }
+beyond_both (One CkA) fs known number no_tie was is below =
+    let least : number_of fs.ck_a < number = subst (λ (k : Option ℕ). IsBelow k number) is below in
+    record { a = λ o. least; b = λ o. let more = was.greater o in omega (arith, least, more) }
+beyond_both (One CkB) fs known number no_tie was is below =
+    let least : number_of fs.ck_b < number = subst (λ (k : Option ℕ). IsBelow k number) is below in
+    record { a = λ o. let more = was.greater o in omega (arith, least, more); b = λ o. least }
+beyond_both (One Program) fs known number no_tie was is below = absurd was
+beyond_both (One Output) fs known number no_tie was is below = absurd was
+beyond_both (One Layouts) fs known number no_tie was is below = absurd was
+beyond_both (One Input) fs known number no_tie was is below = absurd was
+beyond_both Tie fs known number no_tie was is below = absurd (no_tie refl)
 
 module _ (bytes : List ℕ) (number : ℕ) (long : 127 ≤ length bytes) (numbered : number_of (80 ∷ bytes) ≡ number) where
   whole_rank : (b x d : List ℕ) → x ≡ 80 ∷ bytes → d ≡ b → (IsOpen b → number_of b < number) → Outranks x d

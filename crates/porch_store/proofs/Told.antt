@@ -1,16 +1,16 @@
 -- Calls one after another on a disk, told or not.
-use Rattle.std.proofs.Common.{◌≡◌, ⊎_elim, inl, inr, ℕ, List, refl, sym, ◌∙◌, ap, subst, arith, OnOk}
+use Rattle.std.proofs.Common.{◌≡◌, ⊎_elim, inl, inr, ℕ, List, sym, ◌∙◌, ap, subst, arith}
 use Rattle.std.specs.declared.option.Option.{Option}
 use Rattle.std.specs.declared.option.Option.TheVariants.{Some, None}
 use Rattle.std.specs.declared.result.Result.TheVariants.{Ok}
 use Rattle.porch_edge.specs.declared.disk.FileName.{FileName}
 use Rattle.porch_edge.specs.declared.disk.FileName.TheVariants.{CkA, CkB}
-use Rattle.porch_edge.specs.Files.{Files, file_of, with_file, Changed}
+use Rattle.porch_edge.specs.Files.{Files, file_of, with_file}
 use Rattle.porch_edge.specs.Disk.{DiskState, WhenTold, WhereTold, BothTell, IsSettled, SyncStep, OnlyLooks, ButFor, Touches, TouchesOnly, LeavesOnly, HasNow}
 use Rattle.porch_edge.proofs.Index.{own_bytes, with_twice}
 use Rattle.porch_edge.proofs.Runs.{told_at, tells_on, silent_on, both_by}
 use Rattle.porch_store.specs.Checkpoints.{HasNumber, IsNewest}
-use Rattle.porch_store.specs.Stores.{newest_known, Knows, IsReady}
+use Rattle.porch_store.specs.Stores.{newest_known, number_known, newest_number, Knows, IsReady}
 use Rattle.porch_store.specs.declared.store.Store.{Store}
 
 -- what holds of the second holds where it is told
@@ -110,8 +110,8 @@ now_settled s t file g now = second_told s.files t.files (λ gs. (c : Files) →
 
 -- two syncs, and two looks at what the files are numbered
 pub attached : (s0 s1 s2 s3 s4 : DiskState) (store : Store) (first second : Option ℕ) (x y : Unit {0}) → ((fs : Files) → HasNumber fs.ck_a first → HasNumber fs.ck_b second → IsNewest (newest_known store) fs)
-    → SyncStep s0 s1 CkA (Ok x) → SyncStep s1 s2 CkB (Ok y) → WhereTold s2 (λ fs. HasNumber fs.ck_a first) → OnlyLooks s2 s3 → WhereTold s3 (λ fs. HasNumber fs.ck_b second) → OnlyLooks s3 s4 → IsReady store s4
-attached s0 s1 s2 s3 s4 store first second x y picks sync_a sync_b number_a look_a number_b look_b =
+    → ((fs : Files) → HasNumber fs.ck_a first → HasNumber fs.ck_b second → number_known store ≡ newest_number (newest_known store) fs) → SyncStep s0 s1 CkA (Ok x) → SyncStep s1 s2 CkB (Ok y) → WhereTold s2 (λ fs. HasNumber fs.ck_a first) → OnlyLooks s2 s3 → WhereTold s3 (λ fs. HasNumber fs.ck_b second) → OnlyLooks s3 s4 → IsReady store s4
+attached s0 s1 s2 s3 s4 store first second x y picks counts sync_a sync_b number_a look_a number_b look_b =
     second_told s0.files s4.files (Knows store s4) (both_by s0.files s4.files _
     (λ none. silent_on s3.files s4.files _ (silent_on s2.files s3.files _ (silent_on s1.files s2.files _ (silent_on s0.files s1.files _ none sync_a) sync_b) look_a) look_b) (λ fs is.
     let a = tells_on s0.files s1.files _ fs is sync_a in
@@ -127,6 +127,7 @@ attached s0 s1 s2 s3 s4 store first second x y picks sync_a sync_b number_a look
       d.1,
       record {
         newest = subst (λ (f : Files). IsNewest (newest_known store) f) (sym same) (picks b.0 one (subst (λ (f : Files). HasNumber f.ck_b second) c.2.same two));
+        number = subst (λ (f : Files). number_known store ≡ newest_number (newest_known store) f) (sym same) (counts b.0 one (subst (λ (f : Files). HasNumber f.ck_b second) c.2.same two));
         settled_a = λ z left. a.2.1 z (b.2.0.crash z (left_before z left)) ∙ ap (λ (f : Files). f.ck_a) (sym all_same);
         settled_b = λ z left. b.2.1 z (left_before z left) ∙ ap (λ (f : Files). f.ck_b) (sym (same ∙ b.2.0.same));
       },

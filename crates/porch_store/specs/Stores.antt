@@ -1,5 +1,7 @@
 -- What a store knows of a disk, and what a commit may leave there.
-use Rattle.std.specs.Prelude.{◌≡◌, ◌≢◌, ◌⊎◌, ℕ, ◌<◌, List, ◌∷◌, true, false}
+use Rattle.std.specs.Prelude.{◌≡◌, ◌⊎◌, ℕ, ◌<◌, List, ◌∷◌, true}
+use Rattle.std.specs.declared.option.Option.{Option}
+use Rattle.std.specs.declared.option.Option.TheVariants.{Some, None}
 use Rattle.porch_edge.specs.declared.disk.FileName.{FileName}
 use Rattle.porch_edge.specs.declared.disk.FileName.TheVariants.{Program, Output, CkA, CkB, Layouts, Input}
 use Rattle.porch_edge.specs.Files.{Files, file_of}
@@ -13,13 +15,24 @@ use Rattle.porch_store.specs.Checkpoints.{IsOpen, IsNewest, number_of}
 abbrev pub newest_known : Store → Newest
 newest_known store = store.newest
 
+-- the number of that one, or of both where they tie
+abbrev pub number_known : Store → Option ℕ
+number_known store = store.number
+
 -- a commit has failed, and the store is of no more use
 abbrev pub IsSpent : Store → Type 0
 IsSpent store = store.spent ≡ true
 
--- the store knows the newest of these files, and nothing is pending in either checkpoint file
+-- the number of the newest file
+abbrev pub newest_number : Newest → Files → Option ℕ
+newest_number Neither fs = None
+newest_number (One file) fs = Some (number_of (file_of file fs))
+newest_number Tie fs = Some (number_of fs.ck_a)
+
+-- the store knows the newest of these files and its number, and nothing is pending in either checkpoint file
 pub record Knows (store : Store) (disk : DiskState) (fs : Files) : Type 0 where
   pub newest : IsNewest (newest_known store) fs
+  pub number : number_known store ≡ newest_number (newest_known store) fs
   pub settled_a : (c : Files) → disk.leaves c → c.ck_a ≡ fs.ck_a
   pub settled_b : (c : Files) → disk.leaves c → c.ck_b ≡ fs.ck_b
 
@@ -38,10 +51,10 @@ older_of (One Layouts) = CkA
 older_of (One Input) = CkA
 older_of Tie = CkA
 
--- a number beyond that of each open file
-pub record IsBeyond (number : ℕ) (fs : Files) : Type 0 where
-  pub a : IsOpen fs.ck_a → number_of fs.ck_a < number
-  pub b : IsOpen fs.ck_b → number_of fs.ck_b < number
+-- a number, where there is one, is below this one
+abbrev pub IsBelow : Option ℕ → ℕ → Type 0
+IsBelow None number = Unit {0}
+IsBelow (Some known) number = known < number
 
 -- the file has its old bytes, is closed, or is whole: the letter P and these bytes
 pub data OldClosedOrWhole (bytes old now : List ℕ) : Type 0 where

@@ -5,7 +5,11 @@
 //! said in `specs/Checkpoints.antt`, what a store knows and a commit may leave in `specs/Stores.antt`.
 #![tactic(auto)]
 
+mod load;
 mod number;
 mod store;
+#[cfg(test)]
+mod tests;
 
+pub use load::{LoadFault, load_file};
 pub use store::{Ack, Newest, Store};

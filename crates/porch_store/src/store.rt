@@ -1,10 +1,10 @@
 // The two checkpoint files of a disk, of which the newest counts.
-ghost use Rattle.std.specs.Prelude.{◌≡◌, ◌≢◌, ◌≤◌, ◌∷◌, length, IfOk, OnOk, OnErr};
+ghost use Rattle.std.specs.Prelude.{◌≡◌, ◌≢◌, ◌≤◌, ◌↔◌, ◌∷◌, length, IsTrue, IfOk, OnOk, OnErr};
 ghost use Rattle.porch_edge.specs.Causes.{HasCause};
 ghost use Rattle.porch_edge.specs.Files.{Files};
 ghost use Rattle.porch_edge.specs.Disk.{WhereTold, BothTell, OnlyLooks, TouchesOnly, LeavesOnly, HasNow};
 ghost use Rattle.porch_store.specs.Checkpoints.{HasNumber, IsNewest, number_of};
-ghost use Rattle.porch_store.specs.Stores.{newest_known, IsSpent, IsReady, older_of, IsBeyond, OldClosedOrWhole, KeepsNewest, IsNew};
+ghost use Rattle.porch_store.specs.Stores.{newest_known, number_known, newest_number, IsSpent, IsReady, older_of, IsBelow, OldClosedOrWhole, KeepsNewest, IsNew};
 
 use crate::number::{checkpoint, open_number};
 use porch_edge::{Disk, Failed, FileName};
@@ -31,9 +31,12 @@ pub enum Newest {
 }
 
 /// The checkpoint files of a disk. After a commit that failed it is spent.
-#[derive(Clone, Copy, Debug)]
+#[derive(Debug, Drop)]
 pub struct Store {
     newest: Newest,
+    // The number of the newest, or of both where they tie.
+    number: Option<u64>,
+    // Whether a commit has failed.
     spent: bool,
 }
 
@@ -49,24 +52,27 @@ impl Store {
         disk.sync(FileName::CkB)?;
         let first = open_number(disk, FileName::CkA)?;
         let second = open_number(disk, FileName::CkB)?;
-        Ok(Store {
-            newest: newest_by(first, second),
-            spent: false,
-        })
+        Ok(ranked(first, second))
     }
 
     /// Puts a checkpoint into the file that isn't the newest, CkA where none is open: closes the file, fills it and opens
     /// it. `bytes` is the checkpoint without its first byte. At each moment the newest file is the old one with its old
     /// bytes, or the new one, whole. `Failed` only where the disk failed; the store is spent then.
-    pub fn commit<D: Disk>(&mut self, disk: &mut D, bytes: &[u8], number: u64) -> Result<Ack, Failed>
+    pub fn commit<D: Disk>(
+        &mut self,
+        disk: &mut D,
+        bytes: &[u8],
+        number: u64,
+    ) -> Result<Ack, Failed>
         requires usable { ¬ IsSpent self.old }
         requires ready { IsReady self.old (D.state disk.old) }
         requires no_tie { newest_known self.old ≢ Newest.Tie }
-        requires greater { WhereTold (D.state disk.old) (IsBeyond number) }
+        requires greater { IsBelow (number_known self.old) number }
         requires long { 127 ≤ length bytes.now }
         requires numbered { number_of (80 ∷ bytes.now) ≡ number }
         ensures acknowledged { IfOk result (λ ack. ack ≡ record { file = older_of (newest_known self.old); number = number }) }
         ensures known { OnOk result (newest_known self.new ≡ Newest.One (older_of (newest_known self.old))) }
+        ensures numbered { OnOk result (number_known self.new ≡ Some number) }
         ensures ready { OnOk result (IsReady self.new (D.state disk.new)) }
         ensures usable { OnOk result (¬ IsSpent self.new) }
         ensures spent { OnErr result (IsSpent self.new) }
@@ -84,6 +90,7 @@ impl Store {
         open_gate(disk, file, gate)?;
         *self = Store {
             newest: Newest::One { file },
+            number: Some(number),
             spent: false,
         };
         Ok(Ack { file, number })
@@ -94,6 +101,20 @@ impl Store {
         ensures { result ≡ newest_known self.now }
     {
         self.newest
+    }
+
+    /// The number of the newest file, or of both where they tie; none where no file is open.
+    pub fn number(&self) -> Option<u64>
+        ensures { result ≡ number_known self.now }
+    {
+        self.number
+    }
+
+    /// Whether a commit has failed. The store is of no use then: attach one anew.
+    pub fn is_spent(&self) -> bool
+        ensures { IsTrue result ↔ IsSpent self.now }
+    {
+        self.spent
     }
 }
 
@@ -109,24 +130,43 @@ fn older(newest: Newest) -> FileName
     }
 }
 
-// Which file is the newest, by the number of each where it is open.
-fn newest_by(first: Option<u64>, second: Option<u64>) -> Newest
-    ensures { (fs : Files) → HasNumber fs.ck_a first → HasNumber fs.ck_b second → IsNewest result fs }
+// A store that knows the newest, by the number of each file where it is open.
+fn ranked(first: Option<u64>, second: Option<u64>) -> Store
+    ensures newest { (fs : Files) → HasNumber fs.ck_a first → HasNumber fs.ck_b second → IsNewest (newest_known result) fs }
+    ensures number { (fs : Files) → HasNumber fs.ck_a first → HasNumber fs.ck_b second → number_known result ≡ newest_number (newest_known result) fs }
+    ensures usable { ¬ IsSpent result }
 {
-    match (first, second) {
-        (None, None) => Newest::Neither,
-        (Some(_), None) => Newest::One {
-            file: FileName::CkA,
-        },
-        (None, Some(_)) => Newest::One {
-            file: FileName::CkB,
-        },
-        (Some(one), Some(other)) if one > other => Newest::One {
-            file: FileName::CkA,
-        },
-        (Some(one), Some(other)) if one < other => Newest::One {
-            file: FileName::CkB,
-        },
-        (Some(_), Some(_)) => Newest::Tie,
+    let (newest, number) = match (first, second) {
+        (None, None) => (Newest::Neither, None),
+        (Some(one), None) => (
+            Newest::One {
+                file: FileName::CkA,
+            },
+            Some(one),
+        ),
+        (None, Some(other)) => (
+            Newest::One {
+                file: FileName::CkB,
+            },
+            Some(other),
+        ),
+        (Some(one), Some(other)) if one > other => (
+            Newest::One {
+                file: FileName::CkA,
+            },
+            Some(one),
+        ),
+        (Some(one), Some(other)) if one < other => (
+            Newest::One {
+                file: FileName::CkB,
+            },
+            Some(other),
+        ),
+        (Some(one), Some(_)) => (Newest::Tie, Some(one)),
+    };
+    Store {
+        newest,
+        number,
+        spent: false,
     }
 }

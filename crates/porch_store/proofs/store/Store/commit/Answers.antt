@@ -1,8 +1,8 @@
-use Rattle.std.proofs.Common.{◌∷◌, false, sym, ap, subst}
+use Rattle.std.proofs.Common.{◌∷◌, false, refl, ap, subst, Some}
 use Rattle.porch_edge.specs.Disk.{TouchesOnly, HasNow}
 use Rattle.porch_edge.specs.declared.disk.FileName.{FileName}
 use Rattle.porch_store.specs.declared.store.Newest.TheVariants.{One}
-use Rattle.porch_store.specs.Stores.{newest_known, older_of, OldClosedOrWhole}
+use Rattle.porch_store.specs.Stores.{OldClosedOrWhole}
 use Rattle.porch_store.proofs.Commits.{closing, is_long, filling, has_no_letter, opening, whole, moments, is_new, is_ready}
 use Rattle.porch_store.proofs.store.Store.commit.Goals as goal
 
@@ -99,4 +99,4 @@ pub returns-clause-ready : goal.returns-clause-ready
 returns-clause-ready g c =
     is_ready c.args.bytes.now c.args.number c.requires.long c.requires.numbered c.args.self.now (g.D.Disk.state c.args.disk.now) (g.D.Disk.state c.open_gate.new.disk)
     c.requires.ready c.requires.no_tie c.requires.greater (returns-clause-one_file g c) (returns-clause-now g c)
-    (record { newest = One c.older-file.result; spent = false }) (ap One c.older-file.ensures)
+    (record { newest = One c.older-file.result; number = Some c.args.number; spent = false }) (ap (λ (f : FileName). One f) c.older-file.ensures) refl
