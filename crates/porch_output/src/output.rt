@@ -35,8 +35,9 @@ impl Output {
         ensures looks { OnlyLooks (D.state disk.old) (D.state disk.new) }
         ensures cause { HasCause (D.faults disk.old) (D.faults disk.new) result }
     {
-        disk.sync(FileName::Output)?;
-        let written = disk.len(FileName::Output)?;
+        let file = FileName::Output;
+        disk.sync(file)?;
+        let written = disk.len(file)?;
         Ok(Output {
             written,
             buffer: ArrayVec::new(),
@@ -167,9 +168,10 @@ impl Output {
         ensures since { (kept : List ℕ) (mark : Moment) → WhereTold (D.state disk.old) (λ _. BeginsSince kept mark (D.state disk.old)) → WhereTold (D.state disk.new) (λ _. BeginsSince (take to kept) mark (D.state disk.new)) }
         ensures cause { HasCause (D.faults disk.old) (D.faults disk.new) result }
     {
+        let file = FileName::Output;
         self.spent = true;
-        disk.cut(FileName::Output, to)?;
-        disk.sync(FileName::Output)?;
+        disk.cut(file, to)?;
+        disk.sync(file)?;
         self.written = to;
         self.spent = false;
         Ok(())
