@@ -6,8 +6,9 @@ ghost use Rattle.porch_store.specs.Stores.{IsBelow};
 
 use crate::{Ack, LoadFault, Newest, Store, load_file};
 use byteorder::{BigEndian, ByteOrder};
-use porch_edge::{Disk, Failed, FileName, MemDisk, Pick, Stop};
+use porch_edge::{DirDisk, Disk, Failed, FileName, MemDisk, Pick, Stop};
 use std::alloc::{AllocError, Global};
+use std::fs;
 use std::test::Fail;
 
 // A whole checkpoint of 200 bytes.
@@ -234,5 +235,29 @@ fn a_file_is_loaded_whole(rt: HostRuntime) -> Result<(), Fail> {
         let loaded = load_file(alloc, &mut disk, FileName::CkA);
         assert_eq!(rt; matches!(loaded, Err(LoadFault::Failed)), true);
     }
+    Ok(())
+}
+
+#[test]
+fn commits_go_to_a_real_folder(rt: HostRuntime) -> Result<(), Fail> {
+    let alloc = rt.alloc();
+    let mut disk = DirDisk::new(rt.clone()?);
+    // Nothing can be read or written where a folder stands.
+    fs::create_dir(&rt, "ck.b")?;
+    assert_eq!(rt; commit_to(&mut disk, &image(1)[1..]), Err(Failed));
+    fs::remove_dir(&rt, "ck.b")?;
+    for number in 1..=3 {
+        let file = if number == 2 {
+            FileName::CkB
+        } else {
+            FileName::CkA
+        };
+        let ack = Ack { file, number };
+        assert_eq!(rt; commit_to(&mut disk, &image(number)[1..]), Ok(Some(ack)));
+        let whole = load_file(alloc, &mut disk, file)?;
+        assert_eq!(rt; whole.as_slice(), image(number).as_slice());
+    }
+    fs::remove_file(&rt, "ck.a")?;
+    fs::remove_file(&rt, "ck.b")?;
     Ok(())
 }
