@@ -71,7 +71,9 @@ fn newest_of(disk: &mut MemDisk) -> Result<Newest, Failed> {
 
 // The checkpoints that are there, the newest of them, the file that a commit takes, and the number of the call that
 // writes its gate.
-const STARTS: [(Option<u64>, Option<u64>, Newest, FileName, u64); 4] = [
+type Start = (Option<u64>, Option<u64>, Newest, FileName, u64);
+
+const STARTS: [Start; 4] = [
     (None, None, Newest::Neither, FileName::CkA, 11),
     (
         Some(1),
@@ -102,6 +104,35 @@ const STARTS: [(Option<u64>, Option<u64>, Newest, FileName, u64); 4] = [
     ),
 ];
 
+// Whether a commit that is stopped there is made, and the disk after the crash.
+fn stopped(alloc: Global, start: Start, stop: Stop) -> Result<(bool, MemDisk), AllocError> {
+    let (in_a, in_b, _, _, _) = start;
+    let mut disk = disk_of(alloc, in_a, in_b)?;
+    disk.stop_at(stop);
+    let done = commit_to(&mut disk, &image(300)[1..]).is_ok();
+    Ok((done, disk.revive()))
+}
+
+// Whether the newest file is this one and has these bytes, or there is none as there should be.
+fn is_newest(disk: &mut MemDisk, newest: Newest, bytes: &[u8]) -> bool {
+    if newest_of(disk) != Ok(newest) {
+        return false;
+    }
+    match newest {
+        Newest::One { file } => disk.file(file) == bytes,
+        _ => true,
+    }
+}
+
+// The bytes of the newest file of a start.
+fn newest_bytes(alloc: Global, start: Start) -> Result<Vec<u8>, AllocError> {
+    let (in_a, in_b, newest, _, _) = start;
+    match newest {
+        Newest::One { file } => disk_of(alloc, in_a, in_b)?.file(file).to_vec(alloc),
+        _ => Ok(Vec::new(alloc)),
+    }
+}
+
 #[test]
 fn a_crash_in_a_commit_leaves_the_old_or_the_new(rt: HostRuntime) -> Result<(), Fail> {
     let alloc = rt.alloc();
@@ -112,55 +143,57 @@ fn a_crash_in_a_commit_leaves_the_old_or_the_new(rt: HostRuntime) -> Result<(), 
         Pick::Fill(80),
         Pick::Fill(255),
     ];
-    let new = image(300);
-    for (in_a, in_b, old, file, gate) in STARTS {
+    for start in STARTS {
+        let (_, _, old, file, gate) = start;
+        let kept = newest_bytes(alloc, start)?;
         for call in 1..=gate + 2 {
             for pick in picks {
-                let mut disk = disk_of(alloc, in_a, in_b)?;
-                assert_eq!(rt; newest_of(&mut disk), Ok(old));
-                let before = disk_of(alloc, in_a, in_b)?;
-                let mut disk = disk.revive();
-                disk.stop_at(Stop { call, pick });
-                let done = commit_to(&mut disk, &new[1..]);
-                assert_eq!(rt; done.is_ok(), call > gate + 1);
-                let mut disk = disk.revive();
+                let (done, mut disk) = stopped(alloc, start, Stop { call, pick })?;
+                let is_made = call > gate + 1;
                 let letter_left = matches!(pick, Pick::New | Pick::Fill(80));
-                if call > gate + 1 || call >= gate && letter_left {
-                    assert_eq!(rt; newest_of(&mut disk), Ok(Newest::One { file }));
-                    assert_eq!(rt; disk.file(file), new.as_slice());
+                let is_right = if is_made || call >= gate && letter_left {
+                    is_newest(&mut disk, Newest::One { file }, &image(300))
                 } else {
-                    assert_eq!(rt; newest_of(&mut disk), Ok(old));
-                }
-                if let Newest::One { file } = old {
-                    assert_eq!(rt; disk.file(file), before.file(file));
-                }
+                    is_newest(&mut disk, old, &kept)
+                };
+                assert_eq!(rt; (done, is_right), (is_made, true));
             }
         }
     }
     Ok(())
 }
 
+// A commit fails at this call, and is made again by a new store. It says what each answered, and the newest in between.
+fn failed_at(
+    disk: &mut MemDisk,
+    call: u64,
+) -> (Result<Option<Ack>, Failed>, Result<Newest, Failed>, bool) {
+    disk.fail_at(call);
+    let first = commit_to(disk, &image(300)[1..]);
+    let between = newest_of(disk);
+    (first, between, commit_to(disk, &image(300)[1..]).is_ok())
+}
+
 #[test]
 fn a_commit_that_failed_is_made_again(rt: HostRuntime) -> Result<(), Fail> {
     let alloc = rt.alloc();
-    let new = image(300);
     for (in_a, in_b, old, file, gate) in STARTS {
         for call in 1..=gate + 1 {
             let mut disk = disk_of(alloc, in_a, in_b)?;
-            disk.fail_at(call);
-            assert_eq!(rt; commit_to(&mut disk, &new[1..]), Err(Failed));
-            let kept = newest_of(&mut disk)?;
+            // The sync behind the gate's write leaves the file open, as it reads.
+            let between = if call > gate {
+                Newest::One { file }
+            } else {
+                old
+            };
             assert_eq!(rt;
-                kept == old || call > gate && kept == Newest::One { file },
+                failed_at(&mut disk, call),
+                (Err(Failed), Ok(between), true)
+            );
+            assert_eq!(rt;
+                is_newest(&mut disk, Newest::One { file }, &image(300)),
                 true
             );
-            if kept == old {
-                assert_eq!(rt;
-                    commit_to(&mut disk, &new[1..]),
-                    Ok(Some(Ack { file, number: 300 }))
-                );
-            }
-            assert_eq!(rt; disk.file(file), new.as_slice());
         }
     }
     Ok(())
