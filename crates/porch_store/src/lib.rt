@@ -1,0 +1,15 @@
+//! Two checkpoint files, of which the newest survives every crash.
+//!
+//! It stands on `porch_gate`. A commit takes the file that isn't the newest, closes it, fills it and opens it. `store`
+//! is the place to start, `number` reads what a file is numbered, `load` reads a file whole. Which file is the newest is
+//! said in `specs/Checkpoints.antt`, what a store knows and a commit may leave in `specs/Stores.antt`.
+#![tactic(auto)]
+
+mod load;
+mod number;
+mod store;
+#[cfg(test)]
+mod tests;
+
+pub use load::{LoadFault, load_file};
+pub use store::{Ack, Newest, Store};
