@@ -1,6 +1,7 @@
-pub mod Ends
-pub mod Ints
-pub mod Stores
-pub mod Steps
 pub mod Allowed
+pub mod Ends
 pub mod Fitting
+pub mod Framed
+pub mod Ints
+pub mod Steps
+pub mod Stores

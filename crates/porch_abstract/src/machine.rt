@@ -57,6 +57,7 @@ impl Abstract {
         ensures steps { Answers (next program.now self.old.widths self.old.state) self.old.state self.new.state result }
         ensures fits { Fits program.now self.new }
         ensures widths_same { self.new.widths ≡ self.old.widths }
+        ensures goes_on { result ≡ Ok AStep.Went → Continues self.new.state }
     {
         match self.run.phase {
             Phase::Begun => self.run.enter(self.alloc, program.main().vars.len()),

@@ -157,12 +157,12 @@ into words text out out' e t k = record {
       flat = k.ran.ran.flat;
       compiled = k.ran.ran.compiled;
       part = λ r run.
-        let one = same_run k.ran.ran.flat exec_setting k.budget (run_by e t k.ran.ran.ran.output) r k.ran.ran.ran.run run in
-        record { more = k.ran.ran.ran.output; missing = []; split = ap (λ (b : ByteRun). b.output) (sym one) ∙ sym (append-nil k.ran.ran.ran.output); grew = k.ran.ran.ran.grew };
+          let one = same_run k.ran.ran.flat exec_setting k.budget (run_by e t k.ran.ran.ran.output) r k.ran.ran.ran.run run in
+          record { more = k.ran.ran.ran.output; missing = []; split = ap (λ (b : ByteRun). b.output) (sym one) ∙ sym (append-nil k.ran.ran.ran.output); grew = k.ran.ran.ran.grew };
       agrees = λ r run.
-        let one = same_run k.ran.ran.flat exec_setting k.budget (run_by e t k.ran.ran.ran.output) r k.ran.ran.ran.run run in
-        let P : ByteRun → Type 0 = λ b. EndAgrees (meaning_in k.ran.program k.budget) b b.ending in
-        subst P one k.ran.ran.agrees;
+          let one = same_run k.ran.ran.flat exec_setting k.budget (run_by e t k.ran.ran.ran.output) r k.ran.ran.ran.run run in
+          let P : ByteRun → Type 0 = λ b. EndAgrees (meaning_in k.ran.program k.budget) b b.ending in
+          subst P one k.ran.ran.agrees;
     };
   };
 }
@@ -284,13 +284,13 @@ module _ (words : List (List ℕ)) (c : Changes) (err err' : Option (List ℕ)) 
         let program : p ≡ k.ran.program = k.ran.source.only p is in
         let within : k.budget ≡ budget = ordered_once words k.budget budget k.ordered o in
         let there : IsRun k.ran.program k.budget s = record {
-            flat = k.ran.ran.flat;
-            compiled = k.ran.ran.compiled;
-            run = run_by e turns k.ran.ran.ran.output;
-            runs = k.ran.ran.ran.run;
-            answer_is = is_end;
-            agrees = k.ran.ran.agrees;
-          } in
+          flat = k.ran.ran.flat;
+          compiled = k.ran.ran.compiled;
+          run = run_by e turns k.ran.ran.ran.output;
+          runs = k.ran.ran.ran.run;
+          answer_is = is_end;
+          agrees = k.ran.ran.agrees;
+        } in
         let P : Program → Type 0 = λ q. IsRun q k.budget s in
         let Q : ℕ → Type 0 = λ b. IsRun p b s in
         subst Q within (subst P (sym program) there)

@@ -143,16 +143,16 @@ module _ (flat : Flat) (on : Setting) (n : ℕ) where
   broken m h h' h'' f f' f'' le c b = record {
     rose = grind (arith, b.rose);
     part = λ r run.
-      let long = longer run.steps (c.steps + 1) (prepared flat on) [] r run.ends in
-      let e : run.steps + (c.steps + 1) ≡ c.steps + suc run.steps = omega arith in
-      let here = sym (c.same (suc run.steps) ∙ b.goes run.steps c.shown) ∙ rw e at long in
-      let front = begins run.steps b.next (c.shown ++ b.bytes) r here in
-      record {
-        more = c.shown ++ b.grew.more;
-        missing = b.grew.missing ++ front.more;
-        split = front.is ∙ ap (λ (x : List ℕ). (c.shown ++ x) ++ front.more) b.grew.split ∙ simp append_assoc;
-        grew = Grew-twice h h' h'' c.shown b.grew.more c.grew b.grew.grew;
-      };
+        let long = longer run.steps (c.steps + 1) (prepared flat on) [] r run.ends in
+        let e : run.steps + (c.steps + 1) ≡ c.steps + suc run.steps = omega arith in
+        let here = sym (c.same (suc run.steps) ∙ b.goes run.steps c.shown) ∙ rw e at long in
+        let front = begins run.steps b.next (c.shown ++ b.bytes) r here in
+        record {
+          more = c.shown ++ b.grew.more;
+          missing = b.grew.missing ++ front.more;
+          split = front.is ∙ ap (λ (x : List ℕ). (c.shown ++ x) ++ front.more) b.grew.split ∙ simp append_assoc;
+          grew = Grew-twice h h' h'' c.shown b.grew.more c.grew b.grew.grew;
+        };
   }
 
   -- what the run answers where a step ends it

@@ -33,7 +33,7 @@ fn layout_of_exec() -> Layout
 }
 
 /// The valid flat program of a tree.
-fn compiled(alloc: Global, tree: &Tree) -> Result<Valid, AllocError>
+pub fn compiled(alloc: Global, tree: &Tree) -> Result<Valid, AllocError>
     requires { IsLowerable (program_of tree.now) }
     ensures { IsCompiledFor (program_of tree.now) result }
 {

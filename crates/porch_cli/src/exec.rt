@@ -45,12 +45,7 @@ fn advance<O: Sink>(
 }
 
 /// Runs a machine that stands before turn 1, for at most so many turns.
-pub fn run<O: Sink>(
-    machine: &mut Machine,
-    program: &Valid,
-    budget: u64,
-    out: &mut O,
-) -> Status
+pub fn run<O: Sink>(machine: &mut Machine, program: &Valid, budget: u64, out: &mut O) -> Status
     requires fits { Fits program.now machine.old }
     requires start { machine.old.bytes ≡ prepared program.now machine.old.setting }
     requires few { budget ≤ 2 ^ 62 }

@@ -9,6 +9,8 @@ mod compiled;
 mod exec;
 mod line;
 mod reading;
+#[cfg(test)]
+mod side_by_side;
 mod status;
 #[cfg(test)]
 mod tests;

@@ -18,7 +18,7 @@ steps-init g c =
 pub returns-in-Some-clause-runs : goal.returns-in-Some-clause-runs
 returns-in-Some-clause-runs g c =
     let P : Setting → Type 0 = λ on. Advances c.args.program.now on c.args.budget c.steps.machine.bytes c.advance.new.machine.bytes
-      (g.O.Sink.held c.steps.out) (g.O.Sink.held c.advance.new.out) (g.O.Sink.faults c.steps.out) (g.O.Sink.faults c.advance.new.out) (Some c.in-Some.status) in
+    (g.O.Sink.held c.steps.out) (g.O.Sink.held c.advance.new.out) (g.O.Sink.faults c.steps.out) (g.O.Sink.faults c.advance.new.out) (Some c.in-Some.status) in
     let advances = subst P c.steps.invariant.setting c.in-Some.ensures.advances in
     let Q : Bytes → Type 0 = λ start. Came c.args.program.now c.args.machine.now.setting c.args.budget start c.steps.machine.bytes (g.O.Sink.held c.args.out.now) (g.O.Sink.held c.steps.out) in
     let came = subst Q c.requires.start c.steps.invariant.came in
@@ -38,5 +38,5 @@ steps-preserved g c =
       within = on.within;
       later = omega arith;
       came = came_on c.args.program.now c.args.machine.now.setting c.args.budget c.args.machine.now.bytes c.steps.machine.bytes c.advance.new.machine.bytes
-        (g.O.Sink.held c.args.out.now) (g.O.Sink.held c.steps.out) (g.O.Sink.held c.advance.new.out) c.steps.invariant.came on;
+          (g.O.Sink.held c.args.out.now) (g.O.Sink.held c.steps.out) (g.O.Sink.held c.advance.new.out) c.steps.invariant.came on;
     }
