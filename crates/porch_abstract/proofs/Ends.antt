@@ -1,12 +1,12 @@
 -- A run has one end.
-use Rattle.std.proofs.Common.{◌≡◌, ℕ, zero, suc, ◌+◌, ◌&&◌, Bool, true, false, List, [], ◌∷◌, ◌++◌, refl, sym, ap, ◌∙◌, arith, add_comm, Option, Some, None}
+use Rattle.std.proofs.Common.{◌≡◌, ℕ, zero, suc, ◌+◌, ◌&&◌, Bool, true, false, List, [], refl, sym, ap, ◌∙◌, arith, add_comm, Option, Some}
 use Rattle.std.specs.Prelude.{nat_le, if◌then◌else◌}
 use Rattle.porch_values.specs.declared.widths.Widths.{Widths}
 use Rattle.porch_objects.specs.Store.{Mark}
-use Rattle.porch_objects.specs.Meaning.{Meaning, Ending, Ended, Met, Paused}
+use Rattle.porch_objects.specs.Meaning.{Meaning, Ending, Paused}
 use Rattle.porch_flat.specs.declared.flat.Flat.{Flat}
 use Rattle.porch_abstract.specs.Machine.{State, Next, Goes, Ends, Meets, next}
-use Rattle.porch_abstract.specs.Run.{counts_next, run_to, then_on, marks_to, marks_then, marks_at, Means, begin, IsOneRun}
+use Rattle.porch_abstract.specs.Run.{counts_next, run_to, then_on, marks_to, marks_then, Means, begin, IsOneRun}
 
 same_some : (a b : State × Ending) → Some a ≡ Some b → a ≡ b
 same_some a b h = cc

@@ -1,2 +1,5 @@
 pub mod Machine
 pub mod Run
+pub mod Held
+pub mod Effects
+pub mod Kept

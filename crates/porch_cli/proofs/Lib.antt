@@ -1,3 +1,5 @@
-pub mod Turns
-pub mod Taken
 pub mod Reasons
+pub mod Taken
+pub mod Turns
+pub mod Counted
+pub mod Runs

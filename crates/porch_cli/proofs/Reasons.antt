@@ -12,10 +12,14 @@ use Rattle.porch_syntax.specs.declared.refusal.SourceFault.TheVariants.{Refused,
 use Rattle.porch_syntax.specs.Tree.{Program}
 use Rattle.porch_syntax.specs.Language.{IsSource, IsRefusal}
 use Rattle.porch_values.specs.declared.acts.Act.{Act}
-use Rattle.porch_meaning.specs.Mean.{Meaning, Ending, Ended, Met, Paused}
-use Rattle.porch_machine.specs.declared.early.EarlyEnd.{EarlyEnd}
-use Rattle.porch_machine.specs.declared.early.EarlyEnd.TheVariants as end
-use Rattle.porch_machine.specs.Early.{HasRun, EndCaused}
+use Rattle.porch_objects.specs.Meaning as meaning
+use Rattle.porch_objects.specs.Meaning.{Meaning}
+use Rattle.porch_flat.specs.declared.flat.Flat.{Flat}
+use Rattle.porch_abstract.specs.Run.{Means}
+use Rattle.porch_machine.specs.Column.{Setting, widths_of}
+use Rattle.porch_machine.specs.ByteRun.{ByteEnd, Ended, Trap, StackFull, Paused, ByteRun, RunsTo}
+use Rattle.porch_machine.specs.Steps.{IsSetting}
+use Rattle.porch_machine.specs.Laws.{RunsAgree, EndAgrees, MeetsWithin, IsSame}
 use Rattle.porch_cli.specs.declared.reading.ReadStop.{ReadStop}
 use Rattle.porch_cli.specs.declared.reading.ReadStop.TheVariants as stop
 use Rattle.porch_cli.specs.declared.status.Status.{Status}
@@ -23,20 +27,60 @@ use Rattle.porch_cli.specs.declared.status.Status.TheVariants as status
 use Rattle.porch_cli.specs.Words.{IsExec}
 use Rattle.porch_syntax.specs.Token.{decimal_of}
 use Rattle.porch_cli.specs.Lines.{line_of}
-use Rattle.porch_cli.specs.Answers.{meaning_in, HasRead, IsProgram, Ran, RanText, RanInto, Changes, HasReason, RunsText, status_of, refused_for, stopped_for, Closes, HasAnswered, RanSource, IsUsage, IsRefused, IsWriteFault, HasLine, HasLinePrefix, status_for, Completes, Unordered, Refuses}
+use Rattle.porch_cli.specs.Running.{run_by, RanBytes, RanPartly, RunsFlat}
+use Rattle.porch_cli.specs.Answers.{exec_setting, meaning_in, HasRead, IsProgram, IsCompiled, Ran, RanText, RanTextPartly, RanProgram, RanProgramPartly, RanInto, Changes, HasReason, RunsText, RunsTree, RunsProgram, refused_for, stopped_for, Closes, HasAnswered, RanSource, IsUsage, IsRefused, IsWriteFault, HasLine, HasLinePrefix, status_of_end, status_of_meaning, IsRun, Completes, CompletesAsMeant, Unordered, Refuses}
+use Rattle.porch_cli.proofs.Runs.{unchanged, same_run}
 
-pub unchanged : (h : Option (List ℕ)) → Grew h h []
-unchanged None = tt
-unchanged (Some bytes) = sym (append-nil bytes)
+-- what the run of a machine answers is what the run of its program does
+pub run_of_machine : (flat : Flat) (budget : ℕ) (out out' : Option (List ℕ)) (f f' : ℕ) (s : Status) → RunsFlat flat exec_setting budget out out' f f' s → RunsProgram flat budget out out' f f' s
+run_of_machine flat budget out out' f f' (status.Done value turns) r = r
+run_of_machine flat budget out out' f f' (status.Trap a turns) r = r
+run_of_machine flat budget out out' f f' (status.StackFull asked left) r = r
+run_of_machine flat budget out out' f f' (status.Paused turns) r = r
+run_of_machine flat budget out out' f f' (status.Refused x) r = r
+run_of_machine flat budget out out' f f' status.WriteFault r = r
+run_of_machine flat budget out out' f f' status.NoMemory r = absurd r
+run_of_machine flat budget out out' f f' status.Usage r = r
+run_of_machine flat budget out out' f f' status.ReadFault r = r
+
+-- a budget that words order is one that a machine may have
+pub exec_within : (words : List (List ℕ)) (turns : ℕ) → IsExec words turns → turns ≤ 2 ^ 62
+exec_within words turns (inl w) = let e = w.1 in omega arith
+exec_within words turns (inr w) = w.2.greatest
+
+pub exec_is_setting : IsSetting exec_setting
+exec_is_setting = record { layout_is = refl; stack_least = omega arith; stack_most = omega arith; heap_least = omega arith; heap_most = omega arith }
+
+module _ (p : Program) (flat : Flat) (budget : ℕ) (compiled : IsCompiled p flat) (law : RunsAgree) where
+  agrees_with : (r : ByteRun) → RunsTo flat exec_setting budget r → EndAgrees (meaning_in p budget) r r.ending
+  agrees_with r run = law flat exec_setting budget r (meaning_in p budget) compiled.valid exec_is_setting run (compiled.same (widths_of exec_setting.layout) budget [])
+
+  ran_program : (out out' : Option (List ℕ)) (ending : ByteEnd) (turns : ℕ) → RanBytes flat exec_setting budget out out' ending turns → RanProgram p budget out out' ending turns
+  ran_program out out' ending turns ran = record { flat = flat; compiled = compiled; ran = ran; agrees = agrees_with (run_by ending turns ran.output) ran.run }
+
+  -- a compiled program was run
+  pub run_compiled : (out out' : Option (List ℕ)) (f f' : ℕ) (s : Status) → RunsProgram flat budget out out' f f' s → RunsTree p budget out out' f f' s
+  run_compiled out out' f f' (status.Done value turns) r = ran_program out out' (Ended value) turns r
+  run_compiled out out' f f' (status.Trap a turns) r = ran_program out out' (Trap a) turns r
+  run_compiled out out' f f' (status.StackFull asked left) r = (r.0, ran_program out out' (StackFull asked left) r.0 r.1)
+  run_compiled out out' f f' (status.Paused turns) r = ran_program out out' Paused turns r
+  run_compiled out out' f f' (status.Refused x) r = absurd r
+  run_compiled out out' f f' status.WriteFault r = (r.rose, record { flat = flat; compiled = compiled; part = r.part; agrees = agrees_with })
+  run_compiled out out' f f' status.NoMemory r = r
+  run_compiled out out' f f' status.Usage r = absurd r
+  run_compiled out out' f f' status.ReadFault r = absurd r
 
 -- a run of the program that a text is
-pub run_ended : (text : List ℕ) (p : Program) (budget : ℕ) (out out' : Option (List ℕ)) (f f' : ℕ) (e : EarlyEnd) → IsProgram text p → HasRun (meaning_in p budget) out out' e → EndCaused f f' e
-    → RunsText text budget out out' f f' (status_of e)
-run_ended text p budget out out' f f' (end.Ended value turns) is ran cause = record { program = p; source = is; ended = ran.0; turned = ran.1; grew = ran.2 }
-run_ended text p budget out out' f f' (end.Trap a turns) is ran cause = record { program = p; source = is; ended = ran.0; turned = ran.1; grew = ran.2 }
-run_ended text p budget out out' f f' (end.Paused turns) is ran cause = record { program = p; source = is; ended = ran.0; turned = ran.1; grew = ran.2 }
-run_ended text p budget out out' f f' end.WriteFault is ran cause = (cause.rose refl, (p, is, ran))
-run_ended text p budget out out' f f' end.NoMemory is ran cause = ran
+pub run_ended : (text : List ℕ) (p : Program) (budget : ℕ) (out out' : Option (List ℕ)) (f f' : ℕ) (s : Status) → IsProgram text p → RunsTree p budget out out' f f' s → RunsText text budget out out' f f' s
+run_ended text p budget out out' f f' (status.Done value turns) is r = record { program = p; source = is; ran = r }
+run_ended text p budget out out' f f' (status.Trap a turns) is r = record { program = p; source = is; ran = r }
+run_ended text p budget out out' f f' (status.StackFull asked left) is r = (r.0, record { program = p; source = is; ran = r.1 })
+run_ended text p budget out out' f f' (status.Paused turns) is r = record { program = p; source = is; ran = r }
+run_ended text p budget out out' f f' (status.Refused x) is r = absurd r
+run_ended text p budget out out' f f' status.WriteFault is r = (r.0, record { program = p; source = is; ran = r.1 })
+run_ended text p budget out out' f f' status.NoMemory is r = r
+run_ended text p budget out out' f f' status.Usage is r = absurd r
+run_ended text p budget out out' f f' status.ReadFault is r = absurd r
 
 pub stopped_with : (s : ReadStop) → s ≡ stop.ReadFault → IsErrOf (let r : Result (Unit {0}) ReadStop = Err s in r) stop.ReadFault
 stopped_with s e = ap (λ (x : ReadStop). let r : Result (Unit {0}) ReadStop = Err x in r) e
@@ -62,8 +106,9 @@ module _ (words : List (List ℕ)) (c : Changes) where
   reason_of_run text budget (status.Done value turns) o r k = (r, record { budget = budget; ordered = o; ran = k })
   reason_of_run text budget (status.Trap a turns) o r k = (r, record { budget = budget; ordered = o; ran = k })
   reason_of_run text budget (status.Paused turns) o r k = (r, record { budget = budget; ordered = o; ran = k })
+  reason_of_run text budget (status.StackFull asked left) o r k = (r, (k.0, record { budget = budget; ordered = o; ran = k.1 }))
   reason_of_run text budget (status.Refused x) o r k = ((budget, o), r, k.0, k.1, k.2)
-  reason_of_run text budget status.WriteFault o r k = (r, k.0, record { budget = budget; ordered = o; program = k.1.0; source = k.1.1; grew = k.1.2 })
+  reason_of_run text budget status.WriteFault o r k = (r, k.0, record { budget = budget; ordered = o; ran = k.1 })
   reason_of_run text budget status.NoMemory o r k = ((budget, o), k)
   reason_of_run text budget status.Usage o r k = absurd k
   reason_of_run text budget status.ReadFault o r k = absurd k
@@ -101,13 +146,25 @@ ordered_once words m n p q =
     ]
 
 -- all of the output is a beginning of it
-into : (words : List (List ℕ)) (text : List ℕ) (out out' : Option (List ℕ)) (e : Ending) (t : ℕ) → Ran words text out out' e t → RanInto words text out out'
+into : (words : List (List ℕ)) (text : List ℕ) (out out' : Option (List ℕ)) (e : ByteEnd) (t : ℕ) → Ran words text out out' e t → RanInto words text out out'
 into words text out out' e t k = record {
   budget = k.budget;
   ordered = k.ordered;
-  program = k.ran.program;
-  source = k.ran.source;
-  grew = record { more = (meaning_in k.ran.program k.budget).output; missing = []; split = sym (append-nil (meaning_in k.ran.program k.budget).output); grew = k.ran.grew };
+  ran = record {
+    program = k.ran.program;
+    source = k.ran.source;
+    ran = record {
+      flat = k.ran.ran.flat;
+      compiled = k.ran.ran.compiled;
+      part = λ r run.
+        let one = same_run k.ran.ran.flat exec_setting k.budget (run_by e t k.ran.ran.ran.output) r k.ran.ran.ran.run run in
+        record { more = k.ran.ran.ran.output; missing = []; split = ap (λ (b : ByteRun). b.output) (sym one) ∙ sym (append-nil k.ran.ran.ran.output); grew = k.ran.ran.ran.grew };
+      agrees = λ r run.
+        let one = same_run k.ran.ran.flat exec_setting k.budget (run_by e t k.ran.ran.ran.output) r k.ran.ran.ran.run run in
+        let P : ByteRun → Type 0 = λ b. EndAgrees (meaning_in k.ran.program k.budget) b b.ending in
+        subst P one k.ran.ran.agrees;
+    };
+  };
 }
 
 -- Statuses differ, and so do their parts.
@@ -116,6 +173,9 @@ done_write value turns e = cc
 
 trap_write : (a : Act) (turns : ℕ) → status.WriteFault ≡ status.Trap a turns → ⊥
 trap_write a turns e = cc
+
+stack_write : (asked left : ℕ) → status.WriteFault ≡ status.StackFull asked left → ⊥
+stack_write asked left e = cc
 
 paused_write : (turns : ℕ) → status.WriteFault ≡ status.Paused turns → ⊥
 paused_write turns e = cc
@@ -143,8 +203,11 @@ module _ (words : List (List ℕ)) (c : Changes) (err err' : Option (List ℕ)) 
   pub has_done : (value : ℤ) (turns : ℕ) → answer ≡ status.Done value turns → RanSource words c (Ended value) turns
   has_done value turns e = let r = own_reason (status.Done value turns) (done_write value turns) e in record { text = h.text; read = r.0; ran = r.1 }
 
-  pub has_trap : (a : Act) (turns : ℕ) → answer ≡ status.Trap a turns → RanSource words c (Met a) turns
+  pub has_trap : (a : Act) (turns : ℕ) → answer ≡ status.Trap a turns → RanSource words c (Trap a) turns
   has_trap a turns e = let r = own_reason (status.Trap a turns) (trap_write a turns) e in record { text = h.text; read = r.0; ran = r.1 }
+
+  pub has_stack_full : (asked left : ℕ) → answer ≡ status.StackFull asked left → (turns : ℕ) × RanSource words c (StackFull asked left) turns
+  has_stack_full asked left e = let r = own_reason (status.StackFull asked left) (stack_write asked left) e in (r.1.0, record { text = h.text; read = r.0; ran = r.1.1 })
 
   pub has_paused : (turns : ℕ) → answer ≡ status.Paused turns → RanSource words c Paused turns
   has_paused turns e = let r = own_reason (status.Paused turns) (paused_write turns) e in record { text = h.text; read = r.0; ran = r.1 }
@@ -169,7 +232,8 @@ module _ (words : List (List ℕ)) (c : Changes) (err err' : Option (List ℕ)) 
 
   written_by : (s : Status) → HasReason words c h.text s → IsWriteFault words c
   written_by (status.Done value turns) r = inr (h.text, r.0, into words h.text c.held c.held' (Ended value) turns r.1)
-  written_by (status.Trap a turns) r = inr (h.text, r.0, into words h.text c.held c.held' (Met a) turns r.1)
+  written_by (status.Trap a turns) r = inr (h.text, r.0, into words h.text c.held c.held' (Trap a) turns r.1)
+  written_by (status.StackFull asked left) r = inr (h.text, r.0, into words h.text c.held c.held' (StackFull asked left) r.1.0 r.1.1)
   written_by (status.Paused turns) r = inr (h.text, r.0, into words h.text c.held c.held' Paused turns r.1)
   written_by status.Usage r = inl r.2
   written_by (status.Refused x) r = inl r.4
@@ -184,6 +248,7 @@ module _ (words : List (List ℕ)) (c : Changes) (err err' : Option (List ℕ)) 
   ordered_by (status.Done value turns) r never = absurd (never r.1.budget r.1.ordered)
   ordered_by (status.Trap a turns) r never = absurd (never r.1.budget r.1.ordered)
   ordered_by (status.Paused turns) r never = absurd (never r.1.budget r.1.ordered)
+  ordered_by (status.StackFull asked left) r never = absurd (never r.1.1.budget r.1.1.ordered)
   ordered_by status.Usage r never = refl
   ordered_by (status.Refused x) r never = absurd (never r.0.0 r.0.1)
   ordered_by status.ReadFault r never = absurd (never r.0.0 r.0.1)
@@ -198,10 +263,11 @@ module _ (words : List (List ℕ)) (c : Changes) (err err' : Option (List ℕ)) 
   refused_by (status.Done value turns) r text budget o told never calm = absurd (no_program text h.text c.left c.left' told r.0 never r.1.ran.program r.1.ran.source.is)
   refused_by (status.Trap a turns) r text budget o told never calm = absurd (no_program text h.text c.left c.left' told r.0 never r.1.ran.program r.1.ran.source.is)
   refused_by (status.Paused turns) r text budget o told never calm = absurd (no_program text h.text c.left c.left' told r.0 never r.1.ran.program r.1.ran.source.is)
+  refused_by (status.StackFull asked left) r text budget o told never calm = absurd (no_program text h.text c.left c.left' told r.0 never r.1.1.ran.program r.1.1.ran.source.is)
   refused_by status.Usage r text budget o told never calm = absurd (r.0 budget o)
   refused_by (status.Refused x) r text budget o told never calm = inl (x, refl)
   refused_by status.ReadFault r text budget o told never calm = absurd (calm r.1)
-  refused_by status.WriteFault r text budget o told never calm = absurd (no_program text h.text c.left c.left' told r.0 never r.2.program r.2.source.is)
+  refused_by status.WriteFault r text budget o told never calm = absurd (no_program text h.text c.left c.left' told r.0 never r.2.ran.program r.2.ran.source.is)
   refused_by status.NoMemory r text budget o told never calm = inr refl
 
   pub has_refuses : Refuses words c faults faults' answer
@@ -211,22 +277,29 @@ module _ (words : List (List ℕ)) (c : Changes) (err err' : Option (List ℕ)) 
   ]
 
   module _ (budget : ℕ) (text : List ℕ) (p : Program) (o : IsExec words budget) (told : c.left ≡ Some text) (source : IsSource text p) where
-    ended_so : (e : Ending) (turns : ℕ) → HasRead c.left c.left' h.text → Ran words h.text c.held c.held' e turns → status_for turns e ≡ status_for (meaning_in p budget).turns (meaning_in p budget).ending
-    ended_so e turns r k =
+    ran_so : (e : ByteEnd) (turns : ℕ) (s : Status) → s ≡ status_of_end turns e → HasRead c.left c.left' h.text → Ran words h.text c.held c.held' e turns → IsRun p budget s
+    ran_so e turns s is_end r k =
         let same = same_text text h.text c.left c.left' told source.small r in
         let is : IsSource h.text p = (let P : List ℕ → Type 0 = λ x. IsSource x p in subst P (sym same) source) in
         let program : p ≡ k.ran.program = k.ran.source.only p is in
         let within : k.budget ≡ budget = ordered_once words k.budget budget k.ordered o in
-        let m : Meaning = meaning_in k.ran.program k.budget in
-        ap (λ (x : ℕ). status_for x e) (sym k.ran.turned) ∙ ap (λ (x : Ending). status_for m.turns x) (sym k.ran.ended)
-        ∙ ap (λ (q : Program). status_for (meaning_in q k.budget).turns (meaning_in q k.budget).ending) (sym program)
-        ∙ ap (λ (b : ℕ). status_for (meaning_in p b).turns (meaning_in p b).ending) within
+        let there : IsRun k.ran.program k.budget s = record {
+            flat = k.ran.ran.flat;
+            compiled = k.ran.ran.compiled;
+            run = run_by e turns k.ran.ran.ran.output;
+            runs = k.ran.ran.ran.run;
+            answer_is = is_end;
+            agrees = k.ran.ran.agrees;
+          } in
+        let P : Program → Type 0 = λ q. IsRun q k.budget s in
+        let Q : ℕ → Type 0 = λ b. IsRun p b s in
+        subst Q within (subst P (sym program) there)
 
-    completed_by : (s : Status) → HasReason words c h.text s → (Rose c.read_faults c.read_faults' → ⊥) → (Rose c.write_faults c.write_faults' → ⊥)
-        → (s ≡ status_for (meaning_in p budget).turns (meaning_in p budget).ending) ⊎ (s ≡ status.NoMemory)
-    completed_by (status.Done value turns) r calm quiet = inl (ended_so (Ended value) turns r.0 r.1)
-    completed_by (status.Trap a turns) r calm quiet = inl (ended_so (Met a) turns r.0 r.1)
-    completed_by (status.Paused turns) r calm quiet = inl (ended_so Paused turns r.0 r.1)
+    completed_by : (s : Status) → HasReason words c h.text s → (Rose c.read_faults c.read_faults' → ⊥) → (Rose c.write_faults c.write_faults' → ⊥) → IsRun p budget s ⊎ (s ≡ status.NoMemory)
+    completed_by (status.Done value turns) r calm quiet = inl (ran_so (Ended value) turns (status.Done value turns) refl r.0 r.1)
+    completed_by (status.Trap a turns) r calm quiet = inl (ran_so (Trap a) turns (status.Trap a turns) refl r.0 r.1)
+    completed_by (status.Paused turns) r calm quiet = inl (ran_so Paused turns (status.Paused turns) refl r.0 r.1)
+    completed_by (status.StackFull asked left) r calm quiet = inl (ran_so (StackFull asked left) r.1.0 (status.StackFull asked left) refl r.0 r.1.1)
     completed_by status.Usage r calm quiet = absurd (r.0 budget o)
     completed_by (status.Refused x) r calm quiet =
         let same = same_text text h.text c.left c.left' told source.small r.1 in
@@ -237,8 +310,24 @@ module _ (words : List (List ℕ)) (c : Changes) (err err' : Option (List ℕ)) 
 
   pub has_completes : Completes words c faults faults' answer
   has_completes budget text p o told source calm quiet still = elim h.closed [
-    | inl w ↦ elim (completed_by budget text p o told source h.inner h.reason calm quiet) [ inl e ↦ inl (w.0 ∙ e) | inr e ↦ inr (w.0 ∙ e) ]
+    | inl w ↦ (let P : Status → Type 0 = λ s. IsRun p budget s ⊎ (s ≡ status.NoMemory) in subst P (sym w.0) (completed_by budget text p o told source h.inner h.reason calm quiet))
     | inr w ↦ absurd (still w.1)
+  ]
+
+  -- an end that agrees with a meaning without an act is the meaning's
+  as_meant : (m : Meaning) (r : ByteRun) (e : ByteEnd) → ((a : Act) → m.ending ≡ meaning.Met a → ⊥) → EndAgrees m r e
+      → (status_of_end r.turns e ≡ status_of_meaning m.turns m.ending) ⊎ ((asked left : ℕ) × (status_of_end r.turns e ≡ status.StackFull asked left))
+  as_meant m r (Ended z) never (inl act) = absurd (never act.act act.meets)
+  as_meant m r (Ended z) never (inr same) = inl (rw (same.ending_is, same.turns_are) refl)
+  as_meant m r (Trap a) never act = absurd (never act.act act.meets)
+  as_meant m r (StackFull asked left) never agrees = inr (asked, left, refl)
+  as_meant m r Paused never (inl act) = absurd (never act.act act.meets)
+  as_meant m r Paused never (inr same) = inl (rw (same.ending_is, same.turns_are) refl)
+
+  pub has_completes_as_meant : CompletesAsMeant words c faults faults' answer
+  has_completes_as_meant budget text p o told source calm quiet still never = elim (has_completes budget text p o told source calm quiet still) [
+    | inl run ↦ elim (as_meant (meaning_in p budget) run.run run.run.ending never run.agrees) [ inl e ↦ inl (run.answer_is ∙ e) | inr e ↦ inr (inl (e.0, e.1, run.answer_is ∙ e.2)) ]
+    | inr e ↦ inr (inr e)
   ]
 
   pub has_line_or_prefix : HasLine words c err err' answer ⊎ (Rose faults faults' × HasLinePrefix words c err err')

@@ -1,5 +1,5 @@
 -- What each answer of the top call says.
-use Rattle.std.specs.Prelude.{ℕ, ◌≡◌, ◌≤◌, ◌<◌, ◌^◌, ◌⊎◌, List, [], ◌++◌, length, true, false, ⊤, Result, IsErrOf, refl}
+use Rattle.std.specs.Prelude.{ℕ, ◌≡◌, ◌≤◌, ◌<◌, ◌^◌, ◌⊎◌, List, [], ◌++◌, length, true, false, ⊤, Result, Ok, Err, IsErrOf, refl}
 use Rattle.std.specs.Prelude.{map, String, string_bytes}
 use Rattle.std.specs.Global.{Global}
 use Rattle.std.specs.declared.option.Option.{Option}
@@ -13,23 +13,33 @@ use Rattle.porch_syntax.specs.Tree.{Program}
 use Rattle.porch_syntax.specs.Language.{IsSource, IsRefusal}
 use Rattle.porch_types.specs.Leaves.{kind_types}
 use Rattle.porch_values.specs.declared.widths.Widths.{Widths}
-use Rattle.porch_meaning.specs.Mean.{mean, Meaning, Ending, Ended, Met, Paused}
+use Rattle.porch_values.specs.declared.acts.Act.{Act}
+use Rattle.porch_objects.specs.Meaning as meaning
+use Rattle.porch_objects.specs.Meaning.{Meaning}
+use Rattle.porch_meaning.specs.Mean.{mean}
+use Rattle.porch_flat.specs.declared.flat.Flat.{Flat}
+use Rattle.porch_flat.specs.Valid.{IsValid}
+use Rattle.porch_lower.specs.Lowered.{IsLowered, MeansTheSame}
+use Rattle.porch_machine.specs.Column.{Setting, widths_of}
+use Rattle.porch_machine.specs.ByteRun.{ByteEnd, Ended, Trap, StackFull, Paused, ByteRun, RunsTo}
+use Rattle.porch_machine.specs.Steps.{le64}
+use Rattle.porch_machine.specs.Laws.{EndAgrees}
 use Rattle.porch_cli.specs.declared.reading.ReadStop.{ReadStop}
 use Rattle.porch_cli.specs.declared.reading.ReadStop.TheVariants as stop
-use Rattle.porch_machine.specs.declared.early.EarlyEnd.{EarlyEnd}
-use Rattle.porch_machine.specs.declared.early.EarlyEnd.TheVariants as end
 use Rattle.porch_cli.specs.declared.status.Status.{Status}
 use Rattle.porch_cli.specs.declared.status.Status.TheVariants as status
 use Rattle.porch_cli.specs.Words.{IsExec}
 use Rattle.porch_cli.specs.Lines.{line_of}
+use Rattle.std.specs.declared.alloc.AllocError.{AllocError}
+use Rattle.porch_cli.specs.Running.{run_by, RanBytes, RanPartly, RunsFlat}
 
--- the only width of long is 64 bits
-abbrev pub wide_only : Widths
-wide_only = record { narrow = false; wide = true; some = refl }
+-- what exec runs a program on: the layout le64, a stack of 1,048,576 bytes and a heap of 8,388,608
+abbrev pub exec_setting : Setting
+exec_setting = record { layout = le64; stack = 1048576; heap = 8388608 }
 
--- the meaning of a program that takes no input
+-- the meaning of a program that takes no input, for the width of long in that layout
 abbrev pub meaning_in : Program → ℕ → Meaning
-meaning_in p turns = mean kind_types p wide_only turns []
+meaning_in p turns = mean kind_types p (widths_of exec_setting.layout) turns []
 
 -- This much of the source was read: to its end, or past 1,048,576 bytes.
 abbrev pub HasRead : Option (List ℕ) → Option (List ℕ) → List ℕ → Type 0
@@ -53,27 +63,49 @@ pub record IsProgram (text : List ℕ) (p : Program) : Type 0 where
   pub is : IsSource text p
   pub only : (q : Program) → IsSource text q → q ≡ p
 
--- A program was run to this end within a budget: its turns, and all of its output.
-pub record RanText (text : List ℕ) (budget : ℕ) (out out' : Option (List ℕ)) (ending : Ending) (turns : ℕ) : Type 0 where
+-- The flat program of a tree: it is valid, has the tree's variables, and means what the tree means.
+pub record IsCompiled (p : Program) (flat : Flat) : Type 0 where
+  pub valid : IsValid flat
+  pub lowered : IsLowered p flat
+  pub same : MeansTheSame p flat
+
+-- A program was compiled and run over bytes to this end within a budget, and all of its output was written. Unless the
+-- program's meaning meets an undefined act by then, end, turns and output are the meaning's.
+pub record RanProgram (program : Program) (budget : ℕ) (out out' : Option (List ℕ)) (ending : ByteEnd) (turns : ℕ) : Type 0 where
+  pub flat : Flat
+  pub compiled : IsCompiled program flat
+  pub ran : RanBytes flat exec_setting budget out out' ending turns
+  pub agrees : EndAgrees (meaning_in program budget) (run_by ending turns ran.output) ending
+
+-- The text is a program, which was run so.
+pub record RanText (text : List ℕ) (budget : ℕ) (out out' : Option (List ℕ)) (ending : ByteEnd) (turns : ℕ) : Type 0 where
   pub program : Program
   pub source : IsProgram text program
-  pub ended : (meaning_in program budget).ending ≡ ending
-  pub turned : (meaning_in program budget).turns ≡ turns
-  pub grew : Grew out out' (meaning_in program budget).output
+  pub ran : RanProgram program budget out out' ending turns
 
 -- The words order a run within a budget, and the program was run so.
-pub record Ran (words : List (List ℕ)) (text : List ℕ) (out out' : Option (List ℕ)) (ending : Ending) (turns : ℕ) : Type 0 where
+pub record Ran (words : List (List ℕ)) (text : List ℕ) (out out' : Option (List ℕ)) (ending : ByteEnd) (turns : ℕ) : Type 0 where
   pub budget : ℕ
   pub ordered : IsExec words budget
   pub ran : RanText text budget out out' ending turns
+
+-- A program was compiled, and a beginning of the output of its run was written.
+pub record RanProgramPartly (program : Program) (budget : ℕ) (out out' : Option (List ℕ)) : Type 0 where
+  pub flat : Flat
+  pub compiled : IsCompiled program flat
+  pub part : (r : ByteRun) → RunsTo flat exec_setting budget r → GrewByPrefix out out' r.output
+  pub agrees : (r : ByteRun) → RunsTo flat exec_setting budget r → EndAgrees (meaning_in program budget) r r.ending
+
+pub record RanTextPartly (text : List ℕ) (budget : ℕ) (out out' : Option (List ℕ)) : Type 0 where
+  pub program : Program
+  pub source : IsProgram text program
+  pub ran : RanProgramPartly program budget out out'
 
 -- They do, and a beginning of the program's output was written.
 pub record RanInto (words : List (List ℕ)) (text : List ℕ) (out out' : Option (List ℕ)) : Type 0 where
   pub budget : ℕ
   pub ordered : IsExec words budget
-  pub program : Program
-  pub source : IsProgram text program
-  pub grew : GrewByPrefix out out' (meaning_in program budget).output
+  pub ran : RanTextPartly text budget out out'
 
 -- what a call changed: the source and out, and how often each failed
 pub record Changes : Type 0 where
@@ -107,8 +139,9 @@ texts = map (λ word. string_bytes word)
 -- The reason of each answer before its closing line is written, for the text that was read.
 abbrev pub HasReason : List (List ℕ) → Changes → List ℕ → Status → Type 0
 HasReason words c text (status.Done value turns) = HasRead c.left c.left' text × Ran words text c.held c.held' (Ended value) turns
-HasReason words c text (status.Trap a turns) = HasRead c.left c.left' text × Ran words text c.held c.held' (Met a) turns
+HasReason words c text (status.Trap a turns) = HasRead c.left c.left' text × Ran words text c.held c.held' (Trap a) turns
 HasReason words c text (status.Paused turns) = HasRead c.left c.left' text × Ran words text c.held c.held' Paused turns
+HasReason words c text (status.StackFull asked left) = HasRead c.left c.left' text × ((turns : ℕ) × Ran words text c.held c.held' (StackFull asked left) turns)
 HasReason words c text status.Usage = ((turns : ℕ) → IsExec words turns → ⊥) × (c.left' ≡ c.left) × Grew c.held c.held' []
 HasReason words c text (status.Refused r) =
     ((budget : ℕ) × IsExec words budget) × HasRead c.left c.left' text × ((p : Program) → IsSource text p → ⊥) × IsRefusal text (Refused r) × Grew c.held c.held' []
@@ -119,19 +152,31 @@ HasReason words c text status.NoMemory = ((budget : ℕ) × IsExec words budget)
 -- What a run of a text gives. Contracts inside this crate cite it.
 abbrev pub RunsText : List ℕ → ℕ → Option (List ℕ) → Option (List ℕ) → ℕ → ℕ → Status → Type 0
 RunsText text budget out out' faults faults' (status.Done value turns) = RanText text budget out out' (Ended value) turns
-RunsText text budget out out' faults faults' (status.Trap a turns) = RanText text budget out out' (Met a) turns
+RunsText text budget out out' faults faults' (status.Trap a turns) = RanText text budget out out' (Trap a) turns
 RunsText text budget out out' faults faults' (status.Paused turns) = RanText text budget out out' Paused turns
+RunsText text budget out out' faults faults' (status.StackFull asked left) = (turns : ℕ) × RanText text budget out out' (StackFull asked left) turns
 RunsText text budget out out' faults faults' (status.Refused r) = ((p : Program) → IsSource text p → ⊥) × IsRefusal text (Refused r) × Grew out out' []
-RunsText text budget out out' faults faults' status.WriteFault = Rose faults faults' × ((p : Program) × IsProgram text p × GrewByPrefix out out' (meaning_in p budget).output)
+RunsText text budget out out' faults faults' status.WriteFault = Rose faults faults' × RanTextPartly text budget out out'
 RunsText text budget out out' faults faults' status.NoMemory = Grew out out' []
 RunsText text budget out out' faults faults' _ = ⊥
 
-abbrev pub status_of : EarlyEnd → Status
-status_of (end.Ended value turns) = status.Done value turns
-status_of (end.Trap a turns) = status.Trap a turns
-status_of (end.Paused turns) = status.Paused turns
-status_of end.WriteFault = status.WriteFault
-status_of end.NoMemory = status.NoMemory
+-- The same of a tree, and of a flat program. Contracts inside this crate cite them.
+abbrev pub RunsTree : Program → ℕ → Option (List ℕ) → Option (List ℕ) → ℕ → ℕ → Status → Type 0
+RunsTree p budget out out' faults faults' (status.Done value turns) = RanProgram p budget out out' (Ended value) turns
+RunsTree p budget out out' faults faults' (status.Trap a turns) = RanProgram p budget out out' (Trap a) turns
+RunsTree p budget out out' faults faults' (status.Paused turns) = RanProgram p budget out out' Paused turns
+RunsTree p budget out out' faults faults' (status.StackFull asked left) = (turns : ℕ) × RanProgram p budget out out' (StackFull asked left) turns
+RunsTree p budget out out' faults faults' status.WriteFault = Rose faults faults' × RanProgramPartly p budget out out'
+RunsTree p budget out out' faults faults' status.NoMemory = Grew out out' []
+RunsTree p budget out out' faults faults' _ = ⊥
+
+abbrev pub RunsProgram : Flat → ℕ → Option (List ℕ) → Option (List ℕ) → ℕ → ℕ → Status → Type 0
+RunsProgram flat budget out out' faults faults' status.NoMemory = Grew out out' []
+RunsProgram flat budget out out' faults faults' s = RunsFlat flat exec_setting budget out out' faults faults' s
+
+abbrev pub IsCompiledFor : Program → Result Flat AllocError → Type 0
+IsCompiledFor p (Ok flat) = IsCompiled p flat
+IsCompiledFor p (Err e) = ⊤
 
 abbrev pub refused_for : SourceFault → Status
 refused_for (Refused r) = status.Refused r
@@ -156,7 +201,7 @@ pub record HasAnswered (words : List (List ℕ)) (c : Changes) (err err' : Optio
   pub closed : Closes err err' faults faults' (line_of text inner) inner answer
 
 -- The source was read and its program run to this end.
-pub record RanSource (words : List (List ℕ)) (c : Changes) (ending : Ending) (turns : ℕ) : Type 0 where
+pub record RanSource (words : List (List ℕ)) (c : Changes) (ending : ByteEnd) (turns : ℕ) : Type 0 where
   pub text : List ℕ
   pub read : HasRead c.left c.left' text
   pub ran : Ran words text c.held c.held' ending turns
@@ -194,19 +239,43 @@ pub record HasLinePrefix (words : List (List ℕ)) (c : Changes) (err err' : Opt
   pub reason : HasReason words c text inner
   pub line : GrewByPrefix err err' (line_of text inner)
 
--- the status of a meaning
-abbrev pub status_for : ℕ → Ending → Status
-status_for turns (Ended value) = status.Done value turns
-status_for turns (Met a) = status.Trap a turns
-status_for turns Paused = status.Paused turns
+-- the status of a run's end
+abbrev pub status_of_end : ℕ → ByteEnd → Status
+status_of_end turns (Ended value) = status.Done value turns
+status_of_end turns (Trap a) = status.Trap a turns
+status_of_end turns (StackFull asked left) = status.StackFull asked left
+status_of_end turns Paused = status.Paused turns
 
--- A program that the words order to be run, from a source that tells it, where no count of faults rises, ends as its
--- meaning does, unless memory is refused.
-abbrev pub Completes : List (List ℕ) → Changes → ℕ → ℕ → Status → Type 0
-Completes words c faults faults' answer =
+-- the status of a meaning that meets no act
+abbrev pub status_of_meaning : ℕ → meaning.Ending → Status
+status_of_meaning turns (meaning.Ended value) = status.Done value turns
+status_of_meaning turns (meaning.Met a) = status.Trap a turns
+status_of_meaning turns meaning.Paused = status.Paused turns
+
+-- A program was answered with the end of its run over bytes.
+pub record IsRun (p : Program) (budget : ℕ) (answer : Status) : Type 0 where
+  pub flat : Flat
+  pub compiled : IsCompiled p flat
+  pub run : ByteRun
+  pub runs : RunsTo flat exec_setting budget run
+  pub answer_is : answer ≡ status_of_end run.turns run.ending
+  pub agrees : EndAgrees (meaning_in p budget) run run.ending
+
+-- The words order a program to be run, a source tells it, and no count of faults rises: what is answered then.
+abbrev pub WhereOrdered : List (List ℕ) → Changes → ℕ → ℕ → (Program → ℕ → Type 0) → Type 0
+WhereOrdered words c faults faults' Answers =
     (budget : ℕ) (text : List ℕ) (p : Program) → IsExec words budget → c.left ≡ Some text → IsSource text p
-    → (Rose c.read_faults c.read_faults' → ⊥) → (Rose c.write_faults c.write_faults' → ⊥) → (Rose faults faults' → ⊥)
-    → (answer ≡ status_for (meaning_in p budget).turns (meaning_in p budget).ending) ⊎ (answer ≡ status.NoMemory)
+    → (Rose c.read_faults c.read_faults' → ⊥) → (Rose c.write_faults c.write_faults' → ⊥) → (Rose faults faults' → ⊥) → Answers p budget
+
+-- the end of the program's run, unless memory is refused
+abbrev pub Completes : List (List ℕ) → Changes → ℕ → ℕ → Status → Type 0
+Completes words c faults faults' answer = WhereOrdered words c faults faults' (λ p budget. IsRun p budget answer ⊎ (answer ≡ status.NoMemory))
+
+-- Where the program's meaning meets no act within the budget, its end; only the frame of main may not fit the stack.
+abbrev pub CompletesAsMeant : List (List ℕ) → Changes → ℕ → ℕ → Status → Type 0
+CompletesAsMeant words c faults faults' answer =
+    WhereOrdered words c faults faults' (λ p budget. ((a : Act) → (meaning_in p budget).ending ≡ meaning.Met a → ⊥)
+    → (answer ≡ status_of_meaning (meaning_in p budget).turns (meaning_in p budget).ending) ⊎ ((asked left : ℕ) × (answer ≡ status.StackFull asked left)) ⊎ (answer ≡ status.NoMemory))
 
 -- Words that aren't a command are answered by Usage, unless the line fails.
 abbrev pub Unordered : List (List ℕ) → ℕ → ℕ → Status → Type 0

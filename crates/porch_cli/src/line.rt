@@ -158,6 +158,17 @@ fn line_of_end(value: i32, turns: u64) -> Line
     line
 }
 
+/// The line of a frame that doesn't fit.
+fn line_of_full_stack(asked: u64, left: u64) -> Line
+    ensures bytes { result.bytes ≡ said_of [] (Status.StackFull asked left) }
+    ensures room { array_string_len result ≤ 127 }
+{
+    let mut line = line_with("stack full");
+    add_number(&mut line, asked);
+    add_number(&mut line, left);
+    line
+}
+
 /// The line of a used budget.
 fn line_of_pause(turns: u64) -> Line
     ensures bytes { result.bytes ≡ said_of [] (Status.Paused turns) }
@@ -180,6 +191,7 @@ pub fn line_of_status(text: &[u8], status: Status) -> Line
         }
         Status::Refused(refusal) => line_of_refusal(text, refusal),
         Status::Trap { act, turns } => line_of_trap(act, turns),
+        Status::StackFull { asked, left } => line_of_full_stack(asked, left),
         Status::Paused { turns } => line_of_pause(turns),
         Status::ReadFault => line_with("read fault"),
         Status::WriteFault => line_with("write fault"),

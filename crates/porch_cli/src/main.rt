@@ -5,6 +5,8 @@
 //! stands in `specs/Answers.antt`, the lines in `specs/Lines.antt`, the words in `specs/Words.antt`.
 #![tactic(auto)]
 
+mod compiled;
+mod exec;
 mod line;
 mod reading;
 mod status;

@@ -15,8 +15,10 @@ pub enum Status {
     Usage,
     /// The source breaks a rule.
     Refused(Refusal),
-    /// The program met an undefined act.
+    /// The run met what its machine can't go on from, as an undefined act of the program.
     Trap { act: Act, turns: u64 },
+    /// A frame of `asked` bytes doesn't fit the stack, of which `left` bytes are left.
+    StackFull { asked: u64, left: u64 },
     /// A further turn would begin, and the budget is used.
     Paused { turns: u64 },
     /// The source failed.
@@ -36,6 +38,7 @@ pub fn number_of_status(status: Status) -> u8
         Status::Usage => 1,
         Status::Refused(_) => 2,
         Status::Trap { .. } => 3,
+        Status::StackFull { .. } => 4,
         Status::Paused { .. } => 5,
         Status::ReadFault => 12,
         Status::WriteFault => 13,

@@ -5,31 +5,19 @@ ghost use Rattle.porch_edge.specs.Causes.{Rose};
 ghost use Rattle.porch_edge.specs.Streams.{Grew};
 ghost use Rattle.porch_syntax.specs.declared.refusal.Refusal.{Refusal};
 ghost use Rattle.porch_values.specs.declared.acts.Act.{Act};
-ghost use Rattle.porch_meaning.specs.Mean.{Ended, Met, Paused};
+ghost use Rattle.porch_machine.specs.ByteRun.{Ended, Trap, StackFull, Paused};
 ghost use Rattle.porch_cli.specs.Lines.{line_of};
-ghost use Rattle.porch_cli.specs.Answers.{changes, texts, HasReason, RunsText, status_of, refused_for, stopped_for, Closes, HasAnswered, RanSource, IsUsage, IsRefused, IsWriteFault, Unordered, Refuses, Completes, HasLine, HasLinePrefix};
+ghost use Rattle.porch_cli.specs.Answers.{changes, texts, HasReason, RunsText, refused_for, stopped_for, Closes, HasAnswered, RanSource, IsUsage, IsRefused, IsWriteFault, Unordered, Refuses, Completes, CompletesAsMeant, HasLine, HasLinePrefix};
 
+use crate::compiled::run_tree;
 use crate::line::line_of_status;
 use crate::reading::{ReadStop, read_source};
 use crate::status::Status;
 use crate::words::read_words;
 use porch_edge::{Sink, Source, write_all};
-use porch_machine::{EarlyEnd, early_run};
+use porch_lower::sources_are_lowerable;
 use porch_syntax::{SourceFault, parse};
 use std::alloc::Global;
-
-/// The status of a run that ended so.
-fn status_of_end(end: EarlyEnd) -> Status
-    ensures { result ≡ status_of end }
-{
-    match end {
-        EarlyEnd::Ended { value, turns } => Status::Done { value, turns },
-        EarlyEnd::Trap { act, turns } => Status::Trap { act, turns },
-        EarlyEnd::Paused { turns } => Status::Paused { turns },
-        EarlyEnd::WriteFault => Status::WriteFault,
-        EarlyEnd::NoMemory => Status::NoMemory,
-    }
-}
 
 /// The status of a text that has no tree.
 fn status_of_fault(fault: SourceFault) -> Status
@@ -53,11 +41,15 @@ fn status_of_stop(stop: ReadStop) -> Status
 
 /// Runs the program that a text is, for at most so many turns.
 fn run_text<O: Sink>(alloc: Global, text: &[u8], turns: u64, out: &mut O) -> Status
+    requires { turns ≤ 2 ^ 62 }
     ensures runs { RunsText text.now turns (O.held out.old) (O.held out.new) (O.faults out.old) (O.faults out.new) result }
     ensures later { O.faults out.old ≤ O.faults out.new }
 {
     match parse(alloc, text) {
-        Ok(tree) => status_of_end(early_run(alloc, &tree, turns, out)),
+        Ok(tree) => {
+            sources_are_lowerable();
+            run_tree(alloc, &tree, turns, out)
+        }
         Err(fault) => status_of_fault(fault),
     }
 }
@@ -98,7 +90,8 @@ pub fn close<E: Sink>(text: &[u8], status: Status, err: &mut E) -> Status
 
 /// Does what the words order, and writes the closing line of its answer to `err`.
 ///
-/// `exec` reads a program's text from `source`, runs it, and writes its output to `out` byte by byte.
+/// `exec` reads a program's text from `source`, compiles it, runs it over bytes under the layout le64, and writes its
+/// output to `out` byte by byte.
 pub fn porch<S: Source, O: Sink, E: Sink>(
     alloc: Global,
     words: &[String],
@@ -110,11 +103,14 @@ pub fn porch<S: Source, O: Sink, E: Sink>(
         (changes S.left S.faults source.old source.new O.held O.faults out.old out.new)
         (E.held err.old) (E.held err.new) (E.faults err.old) (E.faults err.new) result }
 
-    // The run of a program: its end, its turns and its whole output are those of its meaning.
+    // The run of a program over bytes. Unless the program's meaning meets an undefined act by then, its end, its turns and
+    // its whole output are those of the meaning.
     ensures done { (value : ℤ) (turns : ℕ) → result ≡ Status.Done value turns → RanSource (texts words.now)
         (changes S.left S.faults source.old source.new O.held O.faults out.old out.new) (Ended value) turns }
     ensures trap { (act : Act) (turns : ℕ) → result ≡ Status.Trap act turns → RanSource (texts words.now)
-        (changes S.left S.faults source.old source.new O.held O.faults out.old out.new) (Met act) turns }
+        (changes S.left S.faults source.old source.new O.held O.faults out.old out.new) (Trap act) turns }
+    ensures stack_full { (asked left : ℕ) → result ≡ Status.StackFull asked left → (turns : ℕ) × RanSource (texts words.now)
+        (changes S.left S.faults source.old source.new O.held O.faults out.old out.new) (StackFull asked left) turns }
     ensures paused { (turns : ℕ) → result ≡ Status.Paused turns → RanSource (texts words.now)
         (changes S.left S.faults source.old source.new O.held O.faults out.old out.new) Paused turns }
 
@@ -135,6 +131,9 @@ pub fn porch<S: Source, O: Sink, E: Sink>(
         (changes S.left S.faults source.old source.new O.held O.faults out.old out.new)
         (E.faults err.old) (E.faults err.new) result }
     ensures completes { Completes (texts words.now)
+        (changes S.left S.faults source.old source.new O.held O.faults out.old out.new)
+        (E.faults err.old) (E.faults err.new) result }
+    ensures completes_as_meant { CompletesAsMeant (texts words.now)
         (changes S.left S.faults source.old source.new O.held O.faults out.old out.new)
         (E.faults err.old) (E.faults err.new) result }
 

@@ -1,9 +1,8 @@
 -- The rules of a program, from those of its parts.
-use Rattle.std.proofs.Common.{◌≡◌, ◌<◌, ◌≤◌, ◌+◌, ◌^◌, ◌↔◌, ℕ, IsTrue, Bool, true, false, List, [], ◌∷◌, length, Option, Some, None, refl, arith, sym, ap, ◌∙◌, subst}
+use Rattle.std.proofs.Common.{◌≡◌, ◌<◌, ◌+◌, ◌^◌, ◌↔◌, ℕ, IsTrue, Bool, List, [], ◌∷◌, length, Some, arith, sym, ap, ◌∙◌, subst}
 use Rattle.std.proofs.Math.ListN.{get_or}
-use Rattle.std.proofs.lemmas.Grind.{common_steps}
 use Rattle.std.proofs.lemmas.Bool.{cases_lt}
-use Rattle.std.proofs.lemmas.Option.{slice_get-get_or, slice_get_within, slice_get_read, same_Some}
+use Rattle.std.proofs.lemmas.Option.{slice_get-get_or, slice_get_within, same_Some}
 use Rattle.std.specs.Prelude.{slice_get, IfOk, Result, Ok, Err, ◌⊎◌}
 use Rattle.std.specs.declared.alloc.AllocError.{AllocError}
 use Rattle.std.proofs.Common.{inl, inr}
@@ -19,20 +18,20 @@ last_or_before k at h = elim (cases_lt k at) [ inl a ↦ inl a | inr b ↦ inr (
 
 pub commands_more : (f : Function) (at : ℕ) (c : Command) → AreCommands f at → slice_get f.commands at ≡ Some c → IsCommand f at c → AreCommands f (at + 1)
 commands_more f at c before here rules_of = record {
-    each = λ k d h e. elim (last_or_before k at h) [
-      | inl a ↦ before.each k d a e
-      | inr b ↦
+  each = λ k d h e. elim (last_or_before k at h) [
+    | inl a ↦ before.each k d a e
+    | inr b ↦
         let same : Some d ≡ Some c = sym e ∙ ap (λ n. slice_get f.commands n) b ∙ here in
         subst (λ n. IsCommand f n d) (sym b) (subst (λ x. IsCommand f at x) (sym (same_Some d c same)) rules_of)
-    ];
-  }
+  ];
+}
 
 pub function_from : (f : Function) → length f.vars < 2 ^ 31 → AreCommands f (length f.commands) → IsFunction f
 function_from f few all = record {
-    few = few;
-    parts = λ at c e. (all.each at c (slice_get_within f.commands at c e) e).parts;
-    jumps = λ at c e. (all.each at c (slice_get_within f.commands at c e) e).jumps;
-  }
+  few = few;
+  parts = λ at c e. (all.each at c (slice_get_within f.commands at c e) e).parts;
+  jumps = λ at c e. (all.each at c (slice_get_within f.commands at c e) e).jumps;
+}
 
 pub function_to : (f : Function) → IsFunction f → AreCommands f (length f.commands)
 function_to f is = record { each = λ at c h e. record { parts = is.parts at c e; jumps = is.jumps at c e } }

@@ -1,5 +1,5 @@
 -- Where commands and labels stand in a function.
-use Rattle.std.specs.Prelude.{ℕ, ◌==◌, Bool, false, List, position, codes, slice_get, unwrap_or, Option, Some, None}
+use Rattle.std.specs.Prelude.{ℕ, ◌==◌, Bool, false, List, position, codes, Option}
 use Rattle.std.specs.Str.{bytes_eq}
 use Rattle.porch_flat.specs.declared.flat.Command.{Command}
 use Rattle.porch_flat.specs.declared.flat.Command.TheVariants as command

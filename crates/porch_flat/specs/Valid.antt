@@ -1,5 +1,5 @@
 -- Which flat programs are valid. Each rule speaks of the function that a command stands in.
-use Rattle.std.specs.Prelude.{ℕ, ◌≡◌, ◌<◌, ◌+◌, ◌^◌, ◌⊎◌, ℤ, List, [], ◌∷◌, length, slice_get, codes, All, IsTrue, Option, Some, None, ⊤}
+use Rattle.std.specs.Prelude.{ℕ, ◌≡◌, ◌<◌, ◌+◌, ◌^◌, ◌⊎◌, List, [], ◌∷◌, length, slice_get, codes, All, IsTrue, Some, None, ⊤}
 use Rattle.porch_types.specs.declared.shapes.Kind.TheVariants.{Int}
 use Rattle.porch_types.specs.Leaves.{kind_types}
 use Rattle.porch_values.specs.Integers.{in_range}

@@ -154,7 +154,8 @@ fn is_command(function: &Function, labels: &Labels, at: usize, command: &Command
     requires { (n : ℕ) → place_in labels.now n ≡ place_of_label function.now.commands n }
     ensures { IsTrue result ↔ IsCommand function.now at command.now }
 {
-    has_parts(function, *command) && goes_on_well(function.commands.as_slice(), labels, at, *command)
+    has_parts(function, *command)
+        && goes_on_well(function.commands.as_slice(), labels, at, *command)
 }
 
 fn are_commands(function: &Function, labels: &Labels) -> bool

@@ -45,11 +45,7 @@ impl Labels {
 }
 
 // Takes note of a label, unless its number stood before.
-fn note(
-    places: &mut IndexMap<u32, usize>,
-    at: usize,
-    command: &Command,
-) -> Result<(), AllocError>
+fn note(places: &mut IndexMap<u32, usize>, at: usize, command: &Command) -> Result<(), AllocError>
     ensures { OnOk result ((n : ℕ) → place_in places.new.entries n ≡ first_place (place_in places.old.entries n) (is_label n command.now) at) }
 {
     match command {

@@ -126,6 +126,7 @@ impl Valid {
     pub fn main(&self) -> &Function
         ensures only { self.now.functions ≡ result.now ∷ [] }
         ensures main { IsMain result.now }
+        ensures valid { IsValid self.now }
     {
         &self.flat.functions.as_slice()[0]
     }

@@ -6,6 +6,14 @@ pub mod Fine
 pub mod Joins
 pub mod Marks
 pub mod Same
+pub mod SameCells
+pub mod SameMean
+pub mod SameRun
 pub mod Sources
+pub mod StepsAt
+pub mod StepsRun
+pub mod ThroughExpr
+pub mod ThroughParts
+pub mod ThroughStmt
 pub mod Turns
 pub mod Views

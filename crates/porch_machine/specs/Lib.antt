@@ -5,3 +5,5 @@ pub mod StandsFor
 pub mod ByteRun
 pub mod Steps
 pub mod Laws
+pub mod Resolved
+pub mod Resolving

@@ -1,10 +1,12 @@
 //! The machine: a flat program over bytes, under a layout.
 #![tactic(auto)]
 
-ghost use Rattle.porch_machine.specs.Steps.{Fits};
-ghost use Rattle.porch_machine.specs.Laws.{RunsAgree, RunsAreOne};
-
+mod code;
+mod ints;
+mod machine;
+mod resolving;
 pub mod step;
 
+pub use machine::Machine;
 pub use step::Step;
 pub fn nothing() {}

@@ -1,5 +1,5 @@
 use Rattle.porch_cli.specs.Answers.{HasAnswered}
-use Rattle.porch_cli.proofs.Reasons.{has_done, has_trap, has_paused, has_usage, has_refused, has_read_fault, has_no_memory, has_write_fault, has_written, has_unordered, has_refuses, has_completes, has_line, has_line_or_prefix}
+use Rattle.porch_cli.proofs.Reasons.{has_done, has_trap, has_stack_full, has_paused, has_usage, has_refused, has_read_fault, has_no_memory, has_write_fault, has_written, has_unordered, has_refuses, has_completes, has_completes_as_meant, has_line, has_line_or_prefix}
 use Rattle.porch_cli.proofs.top.porch.Goals as goal
 
 -- the reason that the work gave, and the line that was written
@@ -19,6 +19,9 @@ returns-clause-trap g c = has_trap _ _ _ _ _ _ _ (answered g c)
 
 pub returns-clause-paused : goal.returns-clause-paused
 returns-clause-paused g c = has_paused _ _ _ _ _ _ _ (answered g c)
+
+pub returns-clause-stack_full : goal.returns-clause-stack_full
+returns-clause-stack_full g c = has_stack_full _ _ _ _ _ _ _ (answered g c)
 
 pub returns-clause-usage : goal.returns-clause-usage
 returns-clause-usage g c = has_usage _ _ _ _ _ _ _ (answered g c)
@@ -46,6 +49,9 @@ returns-clause-refuses g c = has_refuses _ _ _ _ _ _ _ (answered g c)
 
 pub returns-clause-completes : goal.returns-clause-completes
 returns-clause-completes g c = has_completes _ _ _ _ _ _ _ (answered g c)
+
+pub returns-clause-completes_as_meant : goal.returns-clause-completes_as_meant
+returns-clause-completes_as_meant g c = has_completes_as_meant _ _ _ _ _ _ _ (answered g c)
 
 pub returns-clause-closing : goal.returns-clause-closing
 returns-clause-closing g c = has_line _ _ _ _ _ _ _ (answered g c)

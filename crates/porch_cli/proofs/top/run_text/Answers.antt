@@ -1,13 +1,16 @@
 use Rattle.std.proofs.Common.{sym}
 use Rattle.porch_syntax.specs.Tree.{program_of}
-use Rattle.porch_cli.specs.Answers.{wide_only, IsProgram}
+use Rattle.porch_cli.specs.Answers.{IsProgram}
 use Rattle.porch_cli.proofs.Reasons.{run_ended, run_refused}
 use Rattle.porch_cli.proofs.top.run_text.Goals as goal
+
+pub run_tree-requires-clause-lowerable : goal.run_tree-requires-clause-lowerable
+run_tree-requires-clause-lowerable g c = c.sources_are_lowerable.ensures c.args.text.now (program_of c.in-Ok.tree) c.in-Ok.ensures.read
 
 pub returns-in-Ok-clause-runs : goal.returns-in-Ok-clause-runs
 returns-in-Ok-clause-runs g c =
     let is : IsProgram c.args.text.now (program_of c.in-Ok.tree) = record { is = c.in-Ok.ensures.read; only = λ q s. sym (c.in-Ok.ensures.only q s) } in
-    rw c.status_of_end.ensures (run_ended c.args.text.now (program_of c.in-Ok.tree) c.args.turns _ _ _ _ c.early_run.result is (c.early_run.ensures.runs wide_only) c.early_run.ensures.cause)
+    run_ended c.args.text.now (program_of c.in-Ok.tree) c.args.turns _ _ _ _ c.run_tree.result is c.run_tree.ensures.runs
 
 pub returns-in-Err-clause-runs : goal.returns-in-Err-clause-runs
 returns-in-Err-clause-runs g c =

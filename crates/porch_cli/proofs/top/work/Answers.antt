@@ -1,6 +1,10 @@
 use Rattle.std.proofs.Common.{refl}
-use Rattle.porch_cli.proofs.Reasons.{unchanged, stopped_with, reason_of_run, reason_of_stop}
+use Rattle.porch_cli.proofs.Runs.{unchanged}
+use Rattle.porch_cli.proofs.Reasons.{stopped_with, reason_of_run, reason_of_stop, exec_within}
 use Rattle.porch_cli.proofs.top.work.Goals as goal
+
+pub run_text-requires : goal.run_text-requires
+run_text-requires g c = exec_within _ c.in-Some.turns ((c.in-Some.ensures c.in-Some.turns).0 refl)
 
 pub returns-in_default-clause-reason : goal.returns-in_default-clause-reason
 returns-in_default-clause-reason g c = (λ t o. c.in_default.not-Some t ((c.read_words.ensures t).1 o), refl, unchanged (g.O.Sink.held c.args.out.now))

@@ -1,4 +1,4 @@
-use Rattle.std.proofs.Common.{◌∙◌, arith}
+use Rattle.std.proofs.Common.{arith}
 use Rattle.std.proofs.lemmas.Grind.{common_steps}
 use Rattle.porch_flat.proofs.Placed.{place_more}
 use Rattle.porch_flat.proofs.labels.Labels.new.Goals as goal
