@@ -1,13 +1,11 @@
 -- The commands of lists of statements and declarations, part by part.
-use Rattle.std.proofs.Common.{◌≡◌, ℕ, suc, max, ◌+◌, ◌*◌, ◌<◌, ◌≤◌, List, [], ◌∷◌, ◌++◌, length, map, drop, get_or, Option, Some, None, Result, OnOk, refl, sym, ap, ◌∙◌, subst, arith, append_assoc, length-append}
+use Rattle.std.proofs.Common.{◌≡◌, ℕ, ◌+◌, ◌<◌, List, [], ◌∷◌, ◌++◌, length, drop, get_or, Option, Some, None, refl, sym, ap, ◌∙◌, arith, append_assoc, length-append}
 use Rattle.std.specs.Option.{option_map}
 use Rattle.porch_syntax.specs.declared.tree.Expr.{Expr}
 use Rattle.porch_syntax.specs.declared.tree.Stmt.{Stmt}
-use Rattle.porch_syntax.specs.Tree.{Node, node_of, Action, repeat, Actions, action, action_of, actions_of}
+use Rattle.porch_syntax.specs.Tree.{Node, node_of, action_of}
 use Rattle.porch_flat.specs.declared.flat.Command.{Command}
-use Rattle.porch_flat.specs.declared.flat.Command.TheVariants as command
-use Rattle.porch_lower.specs.Code.{into_code, action_code, actions_code, declarations_code, operand_code, operand_in, body_label, test_label}
-use Rattle.porch_lower.proofs.Joins.{on_ok, two_parts}
+use Rattle.porch_lower.specs.Code.{into_code, action_code, actions_code, declarations_code}
 use Rattle.porch_lower.proofs.Expressions.{from_here}
 use Rattle.porch_lower.proofs.Counts.{block, declared}
 

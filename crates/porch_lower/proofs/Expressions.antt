@@ -3,7 +3,7 @@ use Rattle.std.proofs.Common.{◌≡◌, ℕ, suc, max, ◌+◌, ◌<◌, ◌≤
 use Rattle.porch_syntax.specs.declared.tree.Sign.{Sign}
 use Rattle.porch_syntax.specs.declared.tree.Expr.{Expr}
 use Rattle.porch_syntax.specs.declared.tree.Expr.TheVariants.{Product, Sum, Less}
-use Rattle.porch_syntax.specs.Tree.{Node, product, sum, less, Nodes, no_nodes, node, Terms, no_terms, term, node_of, nodes_of, terms_of}
+use Rattle.porch_syntax.specs.Tree.{Node, product, sum, Nodes, no_nodes, node, Terms, no_terms, term, node_of, nodes_of, terms_of}
 use Rattle.porch_flat.specs.declared.flat.Operand.{Operand}
 use Rattle.porch_flat.specs.declared.flat.Operand.TheVariants.{Var}
 use Rattle.porch_flat.specs.declared.flat.Command.{Command}

@@ -1,7 +1,6 @@
 -- The flat program of a tree is valid.
-use Rattle.std.proofs.Common.{◌≡◌, ℕ, zero, suc, max, ◌+◌, ◌*◌, ◌^◌, ◌<◌, ◌≤◌, List, [], ◌∷◌, ◌++◌, length, replicate, codes, Option, Some, None, Bool, true, false, pos, refl, sym, ap, subst, ◌∙◌, arith, length-append, IsTrue, is_some}
-use Rattle.std.specs.Prelude.{slice_get, ⊤}
-use Rattle.std.specs.List.{All}
+use Rattle.std.proofs.Common.{◌≡◌, ℕ, ◌+◌, ◌^◌, ◌<◌, ◌≤◌, List, [], ◌∷◌, ◌++◌, length, Option, Some, None, Bool, true, false, pos, refl, arith, length-append}
+use Rattle.std.specs.Prelude.{slice_get}
 use Rattle.std.proofs.lemmas.List.{length-replicate}
 use Rattle.std.proofs.lemmas.List.Elements.{All-replicate}
 use Rattle.porch_syntax.specs.declared.tree.Sign.{Sign}
@@ -16,10 +15,10 @@ use Rattle.porch_flat.specs.declared.flat.Flat.{Flat}
 use Rattle.porch_flat.specs.declared.valid.ValidFault.{ValidFault}
 use Rattle.porch_flat.specs.declared.valid.ValidFault.TheVariants.{NotValid, NoMemory}
 use Rattle.porch_flat.specs.Places.{place_of_label}
-use Rattle.porch_flat.specs.Valid.{int_type, IsOperand, HasParts, IsFunction, IsMain, IsValid, IsRefused}
-use Rattle.porch_lower.specs.Code.{atom_of, is_atom, operand_or, operand_in, commands_or, left_operand, left_commands, by_sign, factor_place, term_place, into_code, factors_code, terms_code, operand_code, action_code, actions_code, declarations_code, main_code, temps_of, factors_temps, terms_temps, action_temps, actions_temps, declarations_temps, main_temps, main_function, flat_of}
+use Rattle.porch_flat.specs.Valid.{int_type, IsOperand, HasParts, IsValid, IsRefused}
+use Rattle.porch_lower.specs.Code.{atom_of, is_atom, operand_in, commands_or, left_operand, left_commands, by_sign, factor_place, term_place, into_code, factors_code, terms_code, operand_code, action_code, actions_code, declarations_code, main_code, temps_of, factors_temps, terms_temps, action_temps, actions_temps, declarations_temps, main_temps, main_function, flat_of}
 use Rattle.porch_lower.specs.Lowered.{IsFit, FactorsFit, TermsFit, ActionFits, ActionsFit, DeclarationsFit, IsLowerable}
-use Rattle.porch_lower.proofs.Marks.{Each, each_joined, each_at, each_of, IsGood, IsBlock, straight_block, block_joined}
+use Rattle.porch_lower.proofs.Marks.{Each, each_joined, each_at, IsGood, IsBlock, straight_block, block_joined}
 use Rattle.porch_lower.proofs.Turns.{loop_block}
 
 -- parts that are left out where an operand is an atom

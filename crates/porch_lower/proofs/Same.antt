@@ -6,4 +6,4 @@ use Rattle.porch_lower.proofs.Fine.{labels_stand}
 use Rattle.porch_lower.proofs.SameRun.{same}
 
 pub means_the_same : (p : Program) → IsLowerable p → MeansTheSame p (flat_of p)
-means_the_same p ok = same p ok (labels_stand p ok)
+means_the_same p lowerable = same p lowerable (labels_stand p lowerable)

@@ -14,7 +14,7 @@ use Rattle.porch_syntax.specs.Tree.{Node, variable, whole, character, nested, pr
 use Rattle.porch_values.specs.declared.acts.Act.{Act}
 use Rattle.porch_values.specs.declared.acts.Act.TheVariants.{Indeterminate}
 use Rattle.porch_values.specs.Integers.{as_int_of}
-use Rattle.porch_objects.specs.Store.{Value, number, null, pointer, indeterminate, Object, seen, leaf_at, stored, forgotten, changed, with_leaf}
+use Rattle.porch_objects.specs.Store.{Value, number, indeterminate, Object, seen, leaf_at, stored, forgotten, changed, with_leaf}
 use Rattle.porch_objects.specs.Meaning.{truth}
 use Rattle.porch_flat.specs.Valid.{int_type}
 use Rattle.porch_flat.specs.declared.flat.Operand.{Operand}

@@ -1,5 +1,5 @@
 -- The meaning of expressions and assignments over cells.
-use Rattle.std.proofs.Common.{◌≡◌, ◌≢◌, ◌⊎◌, inl, inr, ◌*ℤ◌, ℕ, zero, suc, ℤ, Bool, List, [], ◌∷◌, map, length, true, false, ◌∙◌, ap, refl, sym}
+use Rattle.std.proofs.Common.{◌≡◌, ◌≢◌, ◌⊎◌, inl, inr, ◌*ℤ◌, ℕ, zero, suc, ℤ, Bool, List, [], ◌∷◌, map, length, true, false, ◌∙◌, ap, refl}
 use Rattle.std.proofs.Math.ListN.{set as list_set}
 use Rattle.std.specs.Prelude.{if◌then◌else◌, slice_get, Some, None, Result, Ok, Err}
 use Rattle.std.specs.declared.option.Option.{Option}
@@ -7,16 +7,16 @@ use Rattle.porch_syntax.specs.declared.tree.Sign.{Sign}
 use Rattle.porch_syntax.specs.declared.tree.Sign.TheVariants.{Plus, Minus}
 use Rattle.porch_syntax.specs.Tree.{Node, variable, whole, character, nested, product, sum, less, Nodes, no_nodes, node, Terms, no_terms, term}
 use Rattle.porch_values.specs.declared.acts.Act.{Act}
-use Rattle.porch_values.specs.declared.acts.Act.TheVariants.{Overflow, Indeterminate}
+use Rattle.porch_values.specs.declared.acts.Act.TheVariants.{Overflow}
 use Rattle.porch_types.specs.declared.shapes.Kind.TheVariants.{Int}
 use Rattle.porch_values.specs.declared.acts.Op.{Op}
 use Rattle.porch_values.specs.declared.acts.Op.TheVariants.{Mul}
 use Rattle.porch_values.specs.declared.widths.Widths.{Widths}
 use Rattle.porch_values.specs.Integers.{applied, in_range, as_int_of}
-use Rattle.porch_objects.specs.Store.{Value, number, indeterminate, Mark, Object}
+use Rattle.porch_objects.specs.Store.{Value, number, Mark}
 use Rattle.porch_meaning.specs.State.{State}
-use Rattle.porch_meaning.specs.Mean.{Outcome, Went, Undefined, and_then, read, result, operated, op_of, eval, eval_factors, eval_terms, done, with_objects}
-use Rattle.porch_lower.proofs.SameCells.{Cell, object_in, value_in, value_at, read_of, signed, with_value, value_of, factors_of, terms_of, frame_of, leaf_at-cells, stored-cells}
+use Rattle.porch_meaning.specs.Mean.{Outcome, Went, Undefined, and_then, read, result, operated, op_of, eval, eval_factors, eval_terms}
+use Rattle.porch_lower.proofs.SameCells.{Cell, object_in, value_at, read_of, signed, with_value, value_of, factors_of, terms_of, frame_of, leaf_at-cells}
 
 -- a state of the meaning with these variables
 abbrev pub source : List Cell → List ℕ → List Mark → ℕ → State

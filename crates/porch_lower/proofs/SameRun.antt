@@ -1,17 +1,16 @@
 -- The flat program of a tree means what the tree means.
-use Rattle.std.proofs.Common.{◌≡◌, ◌≤◌, ◌<◌, ◌+◌, ◌++◌, ◌&&◌, max, ℕ, zero, suc, ℤ, pos, List, [], ◌∷◌, map, length, replicate, Bool, true, false, refl, sym, ap, subst, ◌∙◌, arith, add-zero, length-append, append_assoc, nat_eq}
+use Rattle.std.proofs.Common.{◌≡◌, ◌≤◌, ◌<◌, ◌+◌, ◌++◌, ℕ, zero, suc, ℤ, pos, List, [], ◌∷◌, map, length, replicate, Bool, true, false, refl, sym, ap, subst, ◌∙◌, arith, add-zero, length-append, append_assoc, nat_eq}
 use Rattle.std.proofs.Math.ListN.{set as list_set}
 use Rattle.std.proofs.lemmas.List.{length-set, length-map}
 use Rattle.std.proofs.lemmas.Bool.Decides.{nat_tests}
-use Rattle.std.specs.Prelude.{slice_get, slice_index_or, nat_le, if◌then◌else◌, Some, None, Result, Ok, Err}
-use Rattle.std.specs.List.{range_with_len}
+use Rattle.std.specs.Prelude.{slice_get, slice_index_or, if◌then◌else◌, Some, None, Result, Ok, Err}
 use Rattle.std.specs.declared.option.Option.{Option}
 use Rattle.porch_types.specs.Leaves.{kind_types}
 use Rattle.porch_syntax.specs.Tree.{Node, Program}
 use Rattle.porch_values.specs.declared.acts.Act.{Act}
 use Rattle.porch_values.specs.declared.widths.Widths.{Widths}
-use Rattle.porch_objects.specs.Store.{Value, number, null, pointer, indeterminate, Mark, Object, Root, fresh}
-use Rattle.porch_objects.specs.Meaning.{Meaning, Ending, Ended, Met, Paused}
+use Rattle.porch_objects.specs.Store.{Value, Mark, Object, Root, fresh}
+use Rattle.porch_objects.specs.Meaning.{Meaning, Ended}
 use Rattle.porch_meaning.specs.State as meaning
 use Rattle.porch_meaning.specs.Mean.{Outcome, Went, Gave, Undefined, Stopped, and_then, done, set, declare, acts, with_objects, back as left_main, meaning_of, mean}
 use Rattle.porch_flat.specs.declared.flat.Operand.TheVariants.{Constant}
@@ -21,16 +20,16 @@ use Rattle.porch_flat.specs.declared.flat.Function.{Function}
 use Rattle.porch_flat.specs.Places.{place_of_label}
 use Rattle.porch_flat.specs.Valid.{int_type}
 use Rattle.porch_abstract.specs.Machine.{State, Next, Goes, Ends, Meets, next}
-use Rattle.porch_abstract.specs.Run.{begin, marks_to, marks_then, counts_next, Means}
-use Rattle.porch_lower.specs.Code.{into_code, declarations_code, actions_code, main_code, temps_of, declarations_temps, actions_temps, main_temps, main_function, flat_of}
+use Rattle.porch_abstract.specs.Run.{begin, marks_to, marks_then, Means}
+use Rattle.porch_lower.specs.Code.{into_code, declarations_code, actions_code, main_code, declarations_temps, main_temps, main_function, flat_of}
 use Rattle.porch_lower.specs.Lowered.{IsLowerable, DeclarationsFit, MeansTheSame}
-use Rattle.porch_lower.proofs.SameCells.{Cell, object_in, reads, value_of, frame_of, stored-cells, forgotten-cells, slice_get-set_other}
+use Rattle.porch_lower.proofs.SameCells.{Cell, object_in, value_of, frame_of, stored-cells, forgotten-cells, slice_get-set_other}
 use Rattle.porch_lower.proofs.SameMean.{source, evaluates, set-same}
-use Rattle.porch_lower.proofs.StepsRun.{GoesOn, EndsWith, over, stays, chain, comes, step_goes, step_ends, step_over}
-use Rattle.porch_lower.proofs.StepsAt.{program_of, at, by_read, next_is, gives, left, left-output, left-turns}
+use Rattle.porch_lower.proofs.StepsRun.{EndsWith, over, stays, comes, step_goes, step_ends, step_over}
+use Rattle.porch_lower.proofs.StepsAt.{program_of, at, next_is, gives, left, left-output, left-turns}
 use Rattle.porch_lower.proofs.ThroughParts.{Stands, front, back, Agrees, Reaches, calm}
 use Rattle.porch_lower.proofs.ThroughExpr.{through}
-use Rattle.porch_lower.proofs.ThroughStmt.{Follows, GoneOn, follows_from, follows_then, assigned, acts_through, agrees-set}
+use Rattle.porch_lower.proofs.ThroughStmt.{Follows, follows_from, follows_then, acts_through, agrees-set}
 
 -- a list stands in itself
 there : (before after : List Command) (c : Command) → slice_get (before ++ c ∷ after) (length before) ≡ Some c
@@ -96,7 +95,7 @@ module _ (p : Program) (ok : IsLowerable p) (homes : (q l : ℕ) → slice_get (
   declared_by x p q e more us cells output turns us_sized cells_sized agrees within inside (Ok z) is reached q' next_ones =
       let after = list_set us x (Some z) in
       let meant : set w n (frame_of m) x e (source us output [] turns) ≡ done (source after output [] turns) =
-        rw (evaluates w n m us us_sized output [] turns e, is) (ap (λ (objects : List Object). done (with_objects (source us output [] turns) objects)) (stored-cells m us us_sized x z)) in
+      rw (evaluates w n m us us_sized output [] turns e, is) (ap (λ (objects : List Object). done (with_objects (source us output [] turns) objects)) (stored-cells m us us_sized x z)) in
       rw meant (follows_from f w n k m [] turns _ (at k p cells output turns) (at k q reached.0 output turns) q' reached.2
       (next_ones after reached.0 (length-set us x (Some z) ∙ us_sized) (reached.1.same_length ∙ cells_sized) (agrees-set us cells reached.0 m x z us_sized inside agrees reached.1)
       (λ y above. slice_get-set_other us x y (Some z) (λ e. absurd (omega arith)))))
@@ -133,7 +132,7 @@ module _ (p : Program) (ok : IsLowerable p) (homes : (q l : ℕ) → slice_get (
   ended : (frame : List ℕ) (o : Outcome) (since q : ℕ) (from : State) → slice_get (main_code p) q ≡ Some (command.Return (Some (Constant (pos 0)))) → follows since o from q → IsSaid from (meaning_of (left_main frame o))
   ended frame (Went v s) since q from h g =
       let stop : next (program_of f) w (at k q g.cells g.output g.turns) ≡ Ends (pos 0) (left f w g.cells g.output g.turns k g.cells_sized q) =
-        next_is f w g.cells g.output g.turns k g.cells_sized q (command.Return (Some (Constant (pos 0)))) h ∙ gives f w g.cells g.output g.turns k g.cells_sized q (Constant (pos 0)) in
+      next_is f w g.cells g.output g.turns k g.cells_sized q (command.Return (Some (Constant (pos 0)))) h ∙ gives f w g.cells g.output g.turns k g.cells_sized q (Constant (pos 0)) in
       let last = step_ends (program_of f) w n (at k q g.cells g.output g.turns) (left f w g.cells g.output g.turns k g.cells_sized q) (pos 0) (calm f w n g.output g.turns k q g.cells (command.Return (Some (Constant (pos 0)))) h refl) stop in
       let last' = rw (left-output f w g.cells g.output g.turns k g.cells_sized q, left-turns f w g.cells g.output g.turns k g.cells_sized q) at last in
       let P : meaning.State → Type 0 = λ s. IsSaid from (meaning_of (left_main frame (Went v s))) in

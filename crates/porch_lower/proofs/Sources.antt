@@ -1,16 +1,15 @@
 -- The tree of a text of the language is one that is lowered.
-use Rattle.std.proofs.Common.{◌≡◌, ℕ, ◌+◌, ◌-◌, ◌*◌, ◌^◌, ◌<◌, ◌≤◌, List, [], ◌∷◌, ◌++◌, length, Option, Some, None, Bool, true, false, pos, refl, sym, ap, subst, ◌∙◌, arith, rules, length-append}
+use Rattle.std.proofs.Common.{ℕ, ◌+◌, ◌-◌, ◌^◌, ◌<◌, ◌≤◌, List, [], ◌∷◌, ◌++◌, length, Option, Some, None, pos, ap, arith, rules, length-append}
 use Rattle.std.specs.Prelude.{⊤, IsTrue}
 use Rattle.std.proofs.lemmas.Bool.Decides.{nat_tests}
-use Rattle.std.proofs.lemmas.Grind.{common_steps}
 use Rattle.porch_types.specs.declared.shapes.Kind.TheVariants.{Int}
 use Rattle.porch_values.specs.Integers.{in_range}
 use Rattle.porch_syntax.specs.declared.token.Token.{Token}
 use Rattle.porch_syntax.specs.declared.token.Token.TheVariants as token
-use Rattle.porch_syntax.specs.Tree.{Node, variable, whole, character, nested, product, sum, less, Nodes, no_nodes, node, Terms, no_terms, term, Action, assign, repeat, putchar, give, Actions, no_actions, action, Program}
+use Rattle.porch_syntax.specs.Tree.{Node, variable, whole, character, nested, product, sum, less, Nodes, no_nodes, node, Terms, no_terms, term, Action, assign, repeat, putchar, give, Actions, no_actions, action}
 use Rattle.porch_syntax.specs.Token.{IsSpelling, is_whole, Spells}
-use Rattle.porch_syntax.specs.Language.{sign_token, expr_tokens, factor_tokens, term_tokens, stmt_tokens, stmts_tokens, decl_tokens, unit_tokens, IsWithin, AreWithin, TermsAreWithin, IsExpr, IsStmt, AreStmts, AreDecls, IsSource}
-use Rattle.porch_lower.specs.Lowered.{IsFit, FactorsFit, TermsFit, ActionFits, ActionsFit, DeclarationsFit, IsLowerable, SourcesAreLowerable}
+use Rattle.porch_syntax.specs.Language.{expr_tokens, factor_tokens, term_tokens, stmt_tokens, stmts_tokens, decl_tokens, unit_tokens, IsWithin, AreWithin, TermsAreWithin, IsStmt, AreStmts, AreDecls}
+use Rattle.porch_lower.specs.Lowered.{IsFit, FactorsFit, TermsFit, ActionFits, ActionsFit, DeclarationsFit, SourcesAreLowerable}
 use Rattle.porch_lower.proofs.Few.{main_few, main_short, declared_few}
 
 -- each token takes a byte

@@ -1,7 +1,6 @@
 -- What each command does to a frame of ints.
-use Rattle.std.proofs.Common.{◌≡◌, ◌≤◌, ◌<◌, ◌+◌, ◌++◌, ◌*ℤ◌, ◌+ℤ◌, ◌-ℤ◌, ℕ, zero, suc, ℤ, pos, List, [], ◌∷◌, map, length, Bool, true, false, refl, sym, ap, ◌∙◌, arith}
+use Rattle.std.proofs.Common.{◌≡◌, ◌<◌, ◌+◌, ◌++◌, ◌*ℤ◌, ◌+ℤ◌, ◌-ℤ◌, ℕ, ℤ, pos, List, [], ◌∷◌, map, length, refl, ap, ◌∙◌}
 use Rattle.std.proofs.Math.ListN.{set}
-use Rattle.std.proofs.lemmas.List.{length-set}
 use Rattle.std.specs.Prelude.{slice_get, slice_index_or, if◌then◌else◌, Some, None, Result, Ok, Err}
 use Rattle.std.specs.Ordering.{int_eq}
 use Rattle.std.specs.declared.option.Option.{Option}
@@ -23,8 +22,8 @@ use Rattle.porch_flat.specs.declared.flat.Function.{Function}
 use Rattle.porch_flat.specs.declared.flat.Flat.{Flat}
 use Rattle.porch_flat.specs.Places.{place_of_label}
 use Rattle.porch_flat.specs.Valid.{int_type}
-use Rattle.porch_abstract.specs.Machine.{State, Frame, Next, Goes, Ends, Meets, next, after, operand_of, counted, determined, resulted, operated, kind_in, kind_of, put, onward, at_label, returned, with_objects, with_frames}
-use Rattle.porch_lower.proofs.SameCells.{Cell, object_in, value_at, read_of, reads, frame_of, place_of, leaf_at-cells, stored-cells, seen-cell}
+use Rattle.porch_abstract.specs.Machine.{State, Frame, Next, Goes, Ends, Meets, next, after, operand_of, counted, determined, resulted, operated, kind_in, put, onward, with_objects, with_frames}
+use Rattle.porch_lower.proofs.SameCells.{Cell, object_in, value_at, read_of, reads, frame_of, leaf_at-cells, stored-cells}
 
 -- the program that is one function
 abbrev pub program_of : Function → Flat

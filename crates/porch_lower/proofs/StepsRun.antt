@@ -1,5 +1,5 @@
 -- Runs of the flat machine, step by step: what a run comes to from there, it comes to from here.
-use Rattle.std.proofs.Common.{◌≡◌, ◌&&◌, ℕ, suc, List, Bool, true, false, refl, sym, ap, ◌∙◌, Option, Some, None}
+use Rattle.std.proofs.Common.{◌≡◌, ◌&&◌, ℕ, suc, List, Bool, true, false, refl, ◌∙◌, Option, Some}
 use Rattle.std.specs.Prelude.{if◌then◌else◌, nat_le, ℤ}
 use Rattle.porch_values.specs.declared.acts.Act.{Act}
 use Rattle.porch_values.specs.declared.widths.Widths.{Widths}

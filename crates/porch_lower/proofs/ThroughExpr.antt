@@ -1,8 +1,7 @@
 -- Runs through the code of an expression.
-use Rattle.std.proofs.Common.{◌≡◌, ◌≤◌, ◌<◌, ◌+◌, ◌++◌, ◌*ℤ◌, ◌+ℤ◌, ◌-ℤ◌, max, ℕ, ℤ, pos, List, [], ◌∷◌, length, refl, sym, ap, ◌∙◌, arith, add-zero, length-append}
+use Rattle.std.proofs.Common.{◌≡◌, ◌≤◌, ◌<◌, ◌+◌, ◌++◌, ◌*ℤ◌, ℕ, ℤ, pos, List, [], ◌∷◌, length, refl, sym, ap, ◌∙◌, arith, add-zero, length-append}
 use Rattle.std.proofs.Math.ListN.{set}
-use Rattle.std.proofs.lemmas.List.{length-set}
-use Rattle.std.specs.Prelude.{slice_get, slice_index_or, Some, None, Result, Ok, Err}
+use Rattle.std.specs.Prelude.{slice_get, slice_index_or, Some, Result, Ok, Err}
 use Rattle.porch_types.specs.Leaves.{kind_types}
 use Rattle.porch_syntax.specs.declared.tree.Sign.{Sign}
 use Rattle.porch_syntax.specs.declared.tree.Sign.TheVariants.{Plus, Minus}
@@ -43,9 +42,11 @@ module _ (f : Function) (w : Widths) (n : ℕ) (output : List ℕ) (turns : ℕ)
   -- a move is the whole
   moved : (p t d : ℕ) (cells : List Cell) (o : Operand) (r : Result ℤ Act) → length cells ≡ k → d < k → slice_get f.commands p ≡ Some (command.Move d o) → reads cells o ≡ r
       → Reaches f w n output turns k t d cells (here f w n output turns k p cells) (p + 1) r
-  moved p t d cells o (Ok z) same small h is =
-      (set cells d (Some z), written-set t d z cells cells (omega arith) (kept-refl t cells),
-      read_goes f w n output turns k p cells (command.Move d o) (reads cells o) z (λ z. here f w n output turns k (p + 1) (set cells d (Some z))) same h refl (moves f w cells output turns k same p d o) is)
+  moved p t d cells o (Ok z) same small h is = (
+    set cells d (Some z),
+    written-set t d z cells cells (omega arith) (kept-refl t cells),
+    read_goes f w n output turns k p cells (command.Move d o) (reads cells o) z (λ z. here f w n output turns k (p + 1) (set cells d (Some z))) same h refl (moves f w cells output turns k same p d o) is,
+  )
   moved p t d cells o (Err a) same small h is =
       read_halts f w n output turns k p cells (command.Move d o) (reads cells o) a (λ z. here f w n output turns k (p + 1) (set cells d (Some z))) same h refl (moves f w cells output turns k same p d o) is
 
@@ -88,7 +89,7 @@ module _ (f : Function) (w : Widths) (n : ℕ) (output : List ℕ) (turns : ℕ)
         let rest = back f.commands p xs (ys ++ c ∷ zs) stands in
         let last = back f.commands (p + length xs) ys (c ∷ zs) rest in
         let one = binary f w n output turns k us t le e fit.0 (through e t (t + 2) fit.0 (omega arith) (omega arith) (omega arith)) g fit.1.0 (through g (t + 1) (t + 2) fit.1.0 (omega arith) (omega arith) (omega arith))
-          v c (λ x y. as_int_of (x *ℤ y)) operator p cells same agrees (front f.commands p xs (ys ++ c ∷ zs) stands) (front f.commands (p + length xs) ys (c ∷ zs) rest) last.0 in
+        v c (λ x y. as_int_of (x *ℤ y)) operator p cells same agrees (front f.commands p xs (ys ++ c ∷ zs) stands) (front f.commands (p + length xs) ys (c ∷ zs) rest) last.0 in
         rw (behind p xs ys zs c, ← joined (value_of us e) (value_of us g) (λ x y. as_int_of (x *ℤ y)) (λ z. factors_of us fs z))
         (then_rest f w n output turns k us t le d v (p + length xs + length ys + 1) _ cells (here f w n output turns k p cells) _ (λ z. factors_of us fs z) same agrees one
         (λ z cells same agrees. factors_through fs d t fit.1.1 le (omega arith) small z (p + length xs + length ys + 1) cells same agrees last.1))
@@ -105,7 +106,7 @@ module _ (f : Function) (w : Widths) (n : ℕ) (output : List ℕ) (turns : ℕ)
         let rest = back f.commands p xs (ys ++ c ∷ zs) stands in
         let last = back f.commands (p + length xs) ys (c ∷ zs) rest in
         let one = binary f w n output turns k us t le e fit.0 (through e t (t + 2) fit.0 (omega arith) (omega arith) (omega arith)) g fit.1.0 (through g (t + 1) (t + 2) fit.1.0 (omega arith) (omega arith) (omega arith))
-          v c (λ x y. as_int_of (signed s x y)) operator p cells same agrees (front f.commands p xs (ys ++ c ∷ zs) stands) (front f.commands (p + length xs) ys (c ∷ zs) rest) last.0 in
+        v c (λ x y. as_int_of (signed s x y)) operator p cells same agrees (front f.commands p xs (ys ++ c ∷ zs) stands) (front f.commands (p + length xs) ys (c ∷ zs) rest) last.0 in
         rw (behind p xs ys zs c, ← joined (value_of us e) (value_of us g) (λ x y. as_int_of (signed s x y)) (λ z. terms_of us ts z))
         (then_rest f w n output turns k us t le d v (p + length xs + length ys + 1) _ cells (here f w n output turns k p cells) _ (λ z. terms_of us ts z) same agrees one
         (λ z cells same agrees. terms_through ts d t fit.1.1 le (omega arith) small z (p + length xs + length ys + 1) cells same agrees last.1))
@@ -117,7 +118,7 @@ module _ (f : Function) (w : Widths) (n : ℕ) (output : List ℕ) (turns : ℕ)
         let rest = back f.commands p xs (ys ++ c ∷ []) stands in
         let last = back f.commands (p + length xs) ys (c ∷ []) rest in
         let one = binary f w n output turns k us t le e fit.0 (through e t (t + 2) fit.0 (omega arith) (omega arith) (omega arith)) g fit.1 (through g (t + 1) (t + 2) fit.1 (omega arith) (omega arith) (omega arith))
-          d c (λ x y. Ok (truth x y)) operator p cells same agrees (front f.commands p xs (ys ++ c ∷ []) stands) (front f.commands (p + length xs) ys (c ∷ []) rest) last.0 in
+        d c (λ x y. Ok (truth x y)) operator p cells same agrees (front f.commands p xs (ys ++ c ∷ []) stands) (front f.commands (p + length xs) ys (c ∷ []) rest) last.0 in
         rw (behind p xs ys [] c, add-zero (p + length xs + length ys + 1)) (reaches_by f w n output turns k t d cells (here f w n output turns k p cells) _ _ same small one)
 
     factors_through : (fs : Nodes) (d t : ℕ) → FactorsFit (length us) fs → length us ≤ t → t + (factors_temps fs + 2) ≤ k → d < k → FactorsThrough fs d t
@@ -136,7 +137,7 @@ module _ (f : Function) (w : Widths) (n : ℕ) (output : List ℕ) (turns : ℕ)
         let same' = kept.same_length ∙ same in
         let agrees' = agrees-kept us cells start t le agrees kept in
         let one = second f w n output turns k us t le g fit.0 v c (Var t) (λ x y. as_int_of (x *ℤ y)) (omega arith) (Ok z) q start (multiplier v (Var t) (operand_in g (t + 1)) place) same' agrees'
-          (ap read_of (Rattle.porch_lower.proofs.SameCells.slice_get-set_same cells t (Some z) inside)) (λ _. (z, refl)) (through g (t + 1) (t + 2) fit.0 (omega arith) (omega arith) (omega arith)) (front f.commands q ys (c ∷ zs) stands) last.0 in
+        (ap read_of (Rattle.porch_lower.proofs.SameCells.slice_get-set_same cells t (Some z) inside)) (λ _. (z, refl)) (through g (t + 1) (t + 2) fit.0 (omega arith) (omega arith) (omega arith)) (front f.commands q ys (c ∷ zs) stands) last.0 in
         rw (behind_one q ys zs c, ← joined (Ok z) (value_of us g) (λ x y. as_int_of (x *ℤ y)) (λ z. factors_of us fs z))
         (reaches_from f w n output turns k t d cells start (here f w n output turns k q start) (here f w n output turns k q start) _ _ kept (stays (program_of f) w n (here f w n output turns k q start))
         (then_rest f w n output turns k us t le d v (q + length ys + 1) _ start (here f w n output turns k q start) _ (λ z. factors_of us fs z) same' agrees' one
@@ -158,7 +159,7 @@ module _ (f : Function) (w : Widths) (n : ℕ) (output : List ℕ) (turns : ℕ)
         let same' = kept.same_length ∙ same in
         let agrees' = agrees-kept us cells start t le agrees kept in
         let one = second f w n output turns k us t le g fit.0 v c (Var t) (λ x y. as_int_of (signed s x y)) (omega arith) (Ok z) q start (adder s v (Var t) (operand_in g (t + 1)) place) same' agrees'
-          (ap read_of (Rattle.porch_lower.proofs.SameCells.slice_get-set_same cells t (Some z) inside)) (λ _. (z, refl)) (through g (t + 1) (t + 2) fit.0 (omega arith) (omega arith) (omega arith)) (front f.commands q ys (c ∷ zs) stands) last.0 in
+        (ap read_of (Rattle.porch_lower.proofs.SameCells.slice_get-set_same cells t (Some z) inside)) (λ _. (z, refl)) (through g (t + 1) (t + 2) fit.0 (omega arith) (omega arith) (omega arith)) (front f.commands q ys (c ∷ zs) stands) last.0 in
         rw (behind_one q ys zs c, ← joined (Ok z) (value_of us g) (λ x y. as_int_of (signed s x y)) (λ z. terms_of us ts z))
         (reaches_from f w n output turns k t d cells start (here f w n output turns k q start) (here f w n output turns k q start) _ _ kept (stays (program_of f) w n (here f w n output turns k q start))
         (then_rest f w n output turns k us t le d v (q + length ys + 1) _ start (here f w n output turns k q start) _ (λ z. terms_of us ts z) same' agrees' one

@@ -1,27 +1,24 @@
 -- Runs through the parts of an expression's code.
-use Rattle.std.proofs.Common.{◌≡◌, ◌≢◌, ◌≤◌, ◌<◌, ◌+◌, ◌++◌, ◌&&◌, ◌⊎◌, inl, inr, ℕ, zero, suc, ℤ, pos, List, [], ◌∷◌, map, length, Bool, true, false, refl, sym, ap, subst, ◌∙◌, arith, add-zero, length-append}
+use Rattle.std.proofs.Common.{◌≡◌, ◌≢◌, ◌≤◌, ◌<◌, ◌+◌, ◌++◌, ◌⊎◌, inl, inr, ℕ, ℤ, pos, List, [], ◌∷◌, length, Bool, true, false, refl, sym, ap, subst, ◌∙◌, arith, add-zero}
 use Rattle.std.proofs.Math.ListN.{set}
 use Rattle.std.proofs.lemmas.List.{length-set}
-use Rattle.std.specs.Prelude.{slice_get, slice_index_or, nat_le, if◌then◌else◌, is_some, Some, None, Result, Ok, Err}
+use Rattle.std.specs.Prelude.{slice_get, is_some, Some, None, Result, Ok, Err}
 use Rattle.std.specs.declared.option.Option.{Option}
-use Rattle.porch_types.specs.Leaves.{kind_types}
-use Rattle.porch_syntax.specs.Tree.{Node, variable, whole, character, nested, product, sum, less, Nodes, no_nodes, node, Terms, no_terms, term}
+use Rattle.porch_syntax.specs.Tree.{Node, variable, whole, character, nested, product, sum, less}
 use Rattle.porch_values.specs.declared.acts.Act.{Act}
 use Rattle.porch_values.specs.declared.widths.Widths.{Widths}
-use Rattle.porch_objects.specs.Meaning.{Ending, Ended, Met, Paused}
+use Rattle.porch_objects.specs.Meaning.{Met}
 use Rattle.porch_flat.specs.declared.flat.Operand.{Operand}
 use Rattle.porch_flat.specs.declared.flat.Operand.TheVariants.{Var, Constant}
 use Rattle.porch_flat.specs.declared.flat.Command.{Command}
-use Rattle.porch_flat.specs.declared.flat.Command.TheVariants as command
 use Rattle.porch_flat.specs.declared.flat.Function.{Function}
-use Rattle.porch_flat.specs.Valid.{int_type}
-use Rattle.porch_abstract.specs.Machine.{State, Next, Goes, Ends, Meets, next}
-use Rattle.porch_abstract.specs.Run.{counts, counts_next}
-use Rattle.porch_lower.specs.Code.{atom_of, is_atom, operand_or, operand_in, commands_or, left_operand, left_commands, into_code, temps_of}
+use Rattle.porch_abstract.specs.Machine.{State, Next, Goes, next}
+use Rattle.porch_abstract.specs.Run.{counts}
+use Rattle.porch_lower.specs.Code.{atom_of, is_atom, operand_or, operand_in, commands_or, left_operand, left_commands, into_code}
 use Rattle.porch_lower.specs.Lowered.{IsFit}
 use Rattle.porch_lower.proofs.SameCells.{Cell, read_of, reads, with_value, value_of, slice_get-set_same, slice_get-set_other}
 use Rattle.porch_lower.proofs.StepsRun.{GoesOn, EndsWith, over, stays, chain, comes, step_goes, step_meets}
-use Rattle.porch_lower.proofs.StepsAt.{program_of, at, by_read, does, next_is, moves}
+use Rattle.porch_lower.proofs.StepsAt.{program_of, at, by_read, does, next_is}
 
 -- these commands stand from this place on
 abbrev pub Stands : List Command → ℕ → List Command → Type 0
@@ -220,7 +217,7 @@ module _ (f : Function) (w : Widths) (n : ℕ) (output : List ℕ) (turns : ℕ)
       second_by q cells (Some o) is operator e agrees read held ih stands h =
           let place : q + 0 ≡ q = add-zero q in
           let value : with_value (reads cells left) (λ x. with_value (reads cells o) (λ y. go x y)) ≡ with_value rx (λ x. with_value (value_of us g) (λ y. go x y)) =
-            rw (read, atom-reads us cells g o agrees fit is) refl in
+          rw (read, atom-reads us cells g o agrees fit is) refl in
           rw place (operator_by q cells t v c left o go _ operator e (rw place at h) value)
 
       pub second : (q : ℕ) (cells : List Cell) → IsOperator c v left (operand_in g (t + 1)) go → length cells ≡ k → Agrees us cells → reads cells left ≡ rx

@@ -1,5 +1,5 @@
 -- Runs through the code of statements.
-use Rattle.std.proofs.Common.{◌≡◌, ◌≢◌, ◌≤◌, ◌<◌, ◌+◌, ◌++◌, ◌⊎◌, inl, inr, max, ℕ, zero, suc, ℤ, pos, List, [], ◌∷◌, map, length, Bool, true, false, refl, sym, ap, subst, ◌∙◌, arith, add-zero, length-append, nat_eq}
+use Rattle.std.proofs.Common.{◌≡◌, ◌≤◌, ◌<◌, ◌+◌, ◌++◌, ◌⊎◌, inl, inr, ℕ, zero, suc, ℤ, pos, List, [], ◌∷◌, length, Bool, true, false, refl, sym, ap, ◌∙◌, arith, add-zero, length-append, nat_eq}
 use Rattle.std.proofs.Math.ListN.{set as list_set}
 use Rattle.std.proofs.lemmas.List.{length-set}
 use Rattle.std.proofs.lemmas.Bool.Decides.{nat_tests}
@@ -10,24 +10,23 @@ use Rattle.porch_types.specs.Leaves.{kind_types}
 use Rattle.porch_syntax.specs.Tree.{Node, Action, assign, repeat, putchar, give, Actions, no_actions, action}
 use Rattle.porch_values.specs.declared.acts.Act.{Act}
 use Rattle.porch_values.specs.declared.widths.Widths.{Widths}
-use Rattle.porch_objects.specs.Store.{Value, number, indeterminate, Mark, Object}
-use Rattle.porch_objects.specs.Meaning.{Ending, Ended, Met, Paused, byte_of}
+use Rattle.porch_objects.specs.Store.{number, Mark, Object}
+use Rattle.porch_objects.specs.Meaning.{Ended, Met, Paused, byte_of}
 use Rattle.porch_meaning.specs.State as meaning
-use Rattle.porch_meaning.specs.Mean.{Outcome, Went, Gave, Undefined, Stopped, and_then, done, used, eval, set, loop, act, acts, shown, turn, with_objects}
+use Rattle.porch_meaning.specs.Mean.{Outcome, Went, Gave, Undefined, Stopped, and_then, done, set, loop, act, acts, with_objects}
 use Rattle.porch_flat.specs.declared.flat.Operand.{Operand}
-use Rattle.porch_flat.specs.declared.flat.Operand.TheVariants.{Var, Constant}
 use Rattle.porch_flat.specs.declared.flat.Command.{Command}
 use Rattle.porch_flat.specs.declared.flat.Command.TheVariants as command
 use Rattle.porch_flat.specs.declared.flat.Function.{Function}
 use Rattle.porch_flat.specs.Places.{place_of_label}
 use Rattle.porch_flat.specs.Valid.{int_type}
 use Rattle.porch_abstract.specs.Machine.{State, Next, Goes, Ends, Meets, next}
-use Rattle.porch_lower.specs.Code.{atom_of, operand_or, operand_in, commands_or, into_code, operand_code, body_label, test_label, action_code, actions_code, temps_of, action_temps, actions_temps}
+use Rattle.porch_lower.specs.Code.{atom_of, operand_in, commands_or, into_code, operand_code, body_label, test_label, action_code, actions_code, temps_of, action_temps, actions_temps}
 use Rattle.porch_lower.specs.Lowered.{IsFit, ActionFits, ActionsFit}
-use Rattle.porch_lower.proofs.SameCells.{Cell, object_in, read_of, reads, value_of, frame_of, stored-cells, slice_get-set_same, slice_get-set_other}
-use Rattle.porch_lower.proofs.SameMean.{source, answered, evaluates, same_or}
+use Rattle.porch_lower.proofs.SameCells.{Cell, read_of, reads, value_of, frame_of, stored-cells, slice_get-set_same, slice_get-set_other}
+use Rattle.porch_lower.proofs.SameMean.{source, evaluates, same_or}
 use Rattle.porch_lower.proofs.StepsRun.{GoesOn, EndsWith, over, stays, chain, comes, step_goes, step_ends, step_meets, step_over}
-use Rattle.porch_lower.proofs.StepsAt.{program_of, at, by_read, does, next_is, shows, jumps, chosen, branches, gives, left, left-output, left-turns}
+use Rattle.porch_lower.proofs.StepsAt.{program_of, at, by_read, next_is, shows, jumps, branches, gives, left, left-output, left-turns}
 use Rattle.porch_lower.proofs.ThroughParts.{Stands, front, back, Agrees, Kept, Written, kept-refl, kept-written, agrees-kept, atom-reads, here, Halts, Reaches, calm}
 use Rattle.porch_lower.proofs.ThroughExpr.{through}
 
@@ -37,7 +36,7 @@ agrees-set us cells cells' m x z sized inside agrees written = record {
   same = λ y below.
       let below' : y < length us = omega (arith, length-set us x (Some z)) in
       elim (same_or y x) [
-        inl e ↦ rw e (slice_get-set_same us x (Some z) (omega arith) ∙ sym written.holds)
+        | inl e ↦ rw e (slice_get-set_same us x (Some z) (omega arith) ∙ sym written.holds)
         | inr ne ↦ slice_get-set_other us x y (Some z) ne ∙ agrees.same y below' ∙ sym (written.kept y (omega arith) ne)
       ];
 }
@@ -114,7 +113,7 @@ module _ (f : Function) (w : Widths) (n k m : ℕ) (marks : List Mark) where
       assigned x p q e (Ok z) is inside reached =
           let after = list_set us x (Some z) in
           let meant : set w n (frame_of m) x e (source us output marks turns) ≡ done (source after output marks turns) =
-            rw (evaluates w n m us us_sized output marks turns e, is) (ap (λ (objects : List Object). done (with_objects (source us output marks turns) objects)) (stored-cells m us us_sized x z)) in
+          rw (evaluates w n m us us_sized output marks turns e, is) (ap (λ (objects : List Object). done (with_objects (source us output marks turns) objects)) (stored-cells m us us_sized x z)) in
           rw meant (record {
             us = after;
             cells = reached.0;
@@ -177,8 +176,8 @@ module _ (f : Function) (w : Widths) (n k m : ℕ) (marks : List Mark) where
           let one : length o.cells' ≡ k = o.kept.same_length ∙ cells_sized in
           let meant : act w n (frame_of m) (putchar e) (source us output marks turns) ≡ done (source us (output ++ byte_of z ∷ []) marks turns) = rw (evaluates w n m us us_sized output marks turns e, is) refl in
           let goes : next (program_of f) w (at k q o.cells' output turns) ≡ Goes (at k (q + 1) after (output ++ byte_of z ∷ []) turns) =
-            next_is f w o.cells' output turns k one q (command.Char m (operand_in e m)) h ∙ shows f w o.cells' output turns k one q m (operand_in e m)
-            ∙ ap (λ (r : Result ℤ Act). by_read r (λ z. Goes (at k (q + 1) after (output ++ byte_of z ∷ []) turns))) o.read in
+          next_is f w o.cells' output turns k one q (command.Char m (operand_in e m)) h ∙ shows f w o.cells' output turns k one q m (operand_in e m)
+          ∙ ap (λ (r : Result ℤ Act). by_read r (λ z. Goes (at k (q + 1) after (output ++ byte_of z ∷ []) turns))) o.read in
           rw meant (record {
             us = us;
             cells = after;
@@ -196,8 +195,8 @@ module _ (f : Function) (w : Widths) (n k m : ℕ) (marks : List Mark) where
           let one : length o.cells' ≡ k = o.kept.same_length ∙ cells_sized in
           let meant : act w n (frame_of m) (putchar e) (source us output marks turns) ≡ Undefined a (source us output marks turns) = rw (evaluates w n m us us_sized output marks turns e, is) refl in
           let meets : next (program_of f) w (at k q o.cells' output turns) ≡ Meets a =
-            next_is f w o.cells' output turns k one q (command.Char m (operand_in e m)) h ∙ shows f w o.cells' output turns k one q m (operand_in e m)
-            ∙ ap (λ (r : Result ℤ Act). by_read r (λ z. Goes (at k (q + 1) (list_set o.cells' m (Some (pos 1))) (output ++ byte_of z ∷ []) turns))) o.read in
+          next_is f w o.cells' output turns k one q (command.Char m (operand_in e m)) h ∙ shows f w o.cells' output turns k one q m (operand_in e m)
+          ∙ ap (λ (r : Result ℤ Act). by_read r (λ z. Goes (at k (q + 1) (list_set o.cells' m (Some (pos 1))) (output ++ byte_of z ∷ []) turns))) o.read in
           rw meant (refl, comes (program_of f) w n _ _ output turns (Met a) o.onward (step_meets (program_of f) w n (at k q o.cells' output turns) a (calm f w n output turns k q o.cells' (command.Char m (operand_in e m)) h refl) meets))
 
       -- return
@@ -210,8 +209,8 @@ module _ (f : Function) (w : Widths) (n k m : ℕ) (marks : List Mark) where
           let one : length o.cells' ≡ k = o.kept.same_length ∙ cells_sized in
           let meant : act w n (frame_of m) (give e) (source us output marks turns) ≡ Gave (number z) (source us output marks turns) = rw (evaluates w n m us us_sized output marks turns e, is) refl in
           let ends : next (program_of f) w (at k q o.cells' output turns) ≡ Ends z (left f w o.cells' output turns k one q) =
-            next_is f w o.cells' output turns k one q (command.Return (Some (operand_in e m))) h ∙ gives f w o.cells' output turns k one q (operand_in e m)
-            ∙ ap (λ (r : Result ℤ Act). by_read r (λ z. Ends z (left f w o.cells' output turns k one q))) o.read in
+          next_is f w o.cells' output turns k one q (command.Return (Some (operand_in e m))) h ∙ gives f w o.cells' output turns k one q (operand_in e m)
+          ∙ ap (λ (r : Result ℤ Act). by_read r (λ z. Ends z (left f w o.cells' output turns k one q))) o.read in
           let last = step_ends (program_of f) w n (at k q o.cells' output turns) (left f w o.cells' output turns k one q) z (calm f w n output turns k q o.cells' (command.Return (Some (operand_in e m))) h refl) ends in
           let there = rw (left-output f w o.cells' output turns k one q, left-turns f w o.cells' output turns k one q) at last in
           rw meant (z, refl, refl, comes (program_of f) w n _ _ output turns (Ended z) o.onward there)
@@ -219,8 +218,8 @@ module _ (f : Function) (w : Widths) (n k m : ℕ) (marks : List Mark) where
           let one : length o.cells' ≡ k = o.kept.same_length ∙ cells_sized in
           let meant : act w n (frame_of m) (give e) (source us output marks turns) ≡ Undefined a (source us output marks turns) = rw (evaluates w n m us us_sized output marks turns e, is) refl in
           let meets : next (program_of f) w (at k q o.cells' output turns) ≡ Meets a =
-            next_is f w o.cells' output turns k one q (command.Return (Some (operand_in e m))) h ∙ gives f w o.cells' output turns k one q (operand_in e m)
-            ∙ ap (λ (r : Result ℤ Act). by_read r (λ z. Ends z (left f w o.cells' output turns k one q))) o.read in
+          next_is f w o.cells' output turns k one q (command.Return (Some (operand_in e m))) h ∙ gives f w o.cells' output turns k one q (operand_in e m)
+          ∙ ap (λ (r : Result ℤ Act). by_read r (λ z. Ends z (left f w o.cells' output turns k one q))) o.read in
           rw meant (refl, comes (program_of f) w n _ _ output turns (Met a) o.onward (step_meets (program_of f) w n (at k q o.cells' output turns) a (calm f w n output turns k q o.cells' (command.Return (Some (operand_in e m))) h refl) meets))
 
     one_behind : (p : ℕ) (xs : List Command) (c : Command) → p + length (xs ++ c ∷ []) ≡ p + length xs + 1
@@ -274,12 +273,23 @@ module _ (f : Function) (w : Widths) (n k m : ℕ) (marks : List Mark) where
             → Follows turns (if b then done (source us output marks turns) else (if nat_eq turns n then Stopped (source us output marks turns) else and_then (acts w n (frame_of m) body (source us output marks (turns + 1))) (λ _ s. more s))) (at k q' cells' output turns) (q' + 1)
         branch_by more z true is cells' same agrees' read there =
             let goes : next (program_of f) w (at k q' cells' output turns) ≡ Goes (at k (q' + 1) cells' output turns) =
-              next_is f w cells' output turns k same q' (command.If (operand_in e m) label) branch ∙ branches f w cells' output turns k same q' (operand_in e m) label p (homes p label begins) ∙ rw (read, is) refl in
-            record { us = us; cells = cells'; output = output; turns = turns; is = refl; us_sized = us_sized; cells_sized = same; agrees = agrees'; later = omega arith; within = within;
-              onward = step_goes (program_of f) w n (at k q' cells' output turns) _ (calm f w n output turns k q' cells' (command.If (operand_in e m) label) branch refl) goes; }
+            next_is f w cells' output turns k same q' (command.If (operand_in e m) label) branch ∙ branches f w cells' output turns k same q' (operand_in e m) label p (homes p label begins) ∙ rw (read, is) refl in
+            record {
+              us = us;
+              cells = cells';
+              output = output;
+              turns = turns;
+              is = refl;
+              us_sized = us_sized;
+              cells_sized = same;
+              agrees = agrees';
+              later = omega arith;
+              within = within;
+              onward = step_goes (program_of f) w n (at k q' cells' output turns) _ (calm f w n output turns k q' cells' (command.If (operand_in e m) label) branch refl) goes;
+            }
         branch_by more z false is cells' same agrees' read there =
             let goes : next (program_of f) w (at k q' cells' output turns) ≡ Goes (at k p cells' output turns) =
-              next_is f w cells' output turns k same q' (command.If (operand_in e m) label) branch ∙ branches f w cells' output turns k same q' (operand_in e m) label p (homes p label begins) ∙ rw (read, is) refl in
+            next_is f w cells' output turns k same q' (command.If (operand_in e m) label) branch ∙ branches f w cells' output turns k same q' (operand_in e m) label p (homes p label begins) ∙ rw (read, is) refl in
             follows_from turns _ (at k q' cells' output turns) (at k p cells' output turns) (q' + 1) (step_goes (program_of f) w n (at k q' cells' output turns) _ (calm f w n output turns k q' cells' (command.If (operand_in e m) label) branch refl) goes) there
 
       loop_by : (fuel : ℕ) (us cells : List Cell) (output : List ℕ) (turns : ℕ) (us_sized : length us ≡ m) (cells_sized : length cells ≡ k) (agrees : Agrees us cells) (within : turns ≤ n) → n + 1 ≤ suc fuel + turns
@@ -293,14 +303,14 @@ module _ (f : Function) (w : Widths) (n k m : ℕ) (marks : List Mark) where
           let one : length o.cells' ≡ k = o.kept.same_length ∙ cells_sized in
           let meant : looped (suc fuel) (source us output marks turns) ≡ Undefined a (source us output marks turns) = rw (evaluates w n m us us_sized output marks turns e, is) refl in
           let meets : Rattle.porch_abstract.specs.Machine.next (program_of f) w (at k q' o.cells' output turns) ≡ Meets a =
-            next_is f w o.cells' output turns k one q' (command.If (operand_in e m) label) branch ∙ branches f w o.cells' output turns k one q' (operand_in e m) label p (homes p label begins) ∙ rw (o.read) refl in
+          next_is f w o.cells' output turns k one q' (command.If (operand_in e m) label) branch ∙ branches f w o.cells' output turns k one q' (operand_in e m) label p (homes p label begins) ∙ rw (o.read) refl in
           rw meant (refl, comes (program_of f) w n _ _ output turns (Met a) o.onward (step_meets (program_of f) w n (at k q' o.cells' output turns) a (calm f w n output turns k q' o.cells' (command.If (operand_in e m) label) branch refl) meets))
       loop_by fuel us cells output turns us_sized cells_sized agrees within enough (Ok z) is (inr o) next =
           let one : length o.cells' ≡ k = o.kept.same_length ∙ cells_sized in
           let agrees' = agrees-kept us cells o.cells' m (omega arith) agrees o.kept in
           let meant : looped (suc fuel) (source us output marks turns)
-            ≡ (if int_eq z (pos 0) then done (source us output marks turns) else (if nat_eq turns n then Stopped (source us output marks turns) else and_then (acts w n (frame_of m) body (source us output marks (turns + 1))) (λ _ s. looped fuel s)))
-            = rw (evaluates w n m us us_sized output marks turns e, is) refl in
+          ≡ (if int_eq z (pos 0) then done (source us output marks turns) else (if nat_eq turns n then Stopped (source us output marks turns) else and_then (acts w n (frame_of m) body (source us output marks (turns + 1))) (λ _ s. looped fuel s)))
+          = rw (evaluates w n m us us_sized output marks turns e, is) refl in
           rw meant
           (follows_from turns _ (at k (q + 1) cells output turns) (at k q' o.cells' output turns) (q' + 1) o.onward
           (branch_by us o.cells' output turns us_sized one agrees' within (looped fuel) z (int_eq z (pos 0)) refl o.cells' one agrees' o.read
@@ -349,7 +359,7 @@ module _ (f : Function) (w : Widths) (n k m : ℕ) (marks : List Mark) where
           let two : p + 1 + 2 ≡ p + 3 = omega arith in
           let body_there : Beside (λ s. acts w n (frame_of m) body s) (p + 1 + 2) q = rw two (acts_through body (p + 3) fit.1 (omega arith) (front f.commands (p + 3) xs rest after)) in
           let loop_there = loop_through e body (p + 1) q (q + 1 + length ys) fit.0 (omega arith) (body_label p) stands.1.0 stands.1.1.0 test.0 (front f.commands (q + 1) ys (command.If (operand_in e m) (body_label p) ∷ []) test.1) refl branch.0 body_there
-            (suc n) us cells output turns us_sized cells_sized agrees within (omega arith) in
+          (suc n) us cells output turns us_sized cells_sized agrees within (omega arith) in
           let ends : p + length (action_code m p (repeat e body)) ≡ q + 1 + length ys + 1 = simp length-append (omega arith) in
           rw ends (follows_from turns _ (at k p cells output turns) (at k q cells output turns) (q + 1 + length ys + 1) (jumped p q (test_label p) cells output turns cells_sized stands.0 test.0) loop_there)
 

@@ -1,7 +1,6 @@
 -- A loop's commands as a block of a function.
-use Rattle.std.proofs.Common.{◌≡◌, ◌≢◌, ℕ, zero, suc, ◌+◌, ◌*◌, ◌^◌, ◌<◌, ◌≤◌, ◌==◌, List, [], ◌∷◌, ◌++◌, length, Option, Some, None, Bool, true, false, refl, sym, ap, subst, ◌∙◌, arith, ◌⊎◌, inl, inr, length-append}
-use Rattle.std.specs.Prelude.{slice_get, ⊤}
-use Rattle.std.specs.List.{position, position_or_len}
+use Rattle.std.proofs.Common.{◌≡◌, ◌≢◌, ℕ, zero, suc, ◌+◌, ◌*◌, ◌^◌, ◌<◌, ◌==◌, List, [], ◌∷◌, ◌++◌, length, Some, true, false, refl, ap, subst, ◌∙◌, arith, inl, inr, length-append}
+use Rattle.std.specs.Prelude.{slice_get}
 use Rattle.std.proofs.lemmas.Bool.Decides.{nat_tests}
 use Rattle.porch_flat.specs.declared.flat.Operand.{Operand}
 use Rattle.porch_flat.specs.declared.flat.Command.{Command}
@@ -9,7 +8,7 @@ use Rattle.porch_flat.specs.declared.flat.Command.TheVariants as command
 use Rattle.porch_flat.specs.declared.flat.Function.{Function}
 use Rattle.porch_flat.specs.Places.{is_label, place_of_label}
 use Rattle.porch_flat.specs.Valid.{IsOperand, HasParts, GoesOnWell}
-use Rattle.porch_lower.proofs.Marks.{Each, each_joined, each_at, each_of, IsStraight, IsGood, HasNot, IsWell, IsBlock, found, found_front, found_back, none_joined, none_cons, none_straight, either, well_front, well_back, AreApart, straight_well, place}
+use Rattle.porch_lower.proofs.Marks.{Each, each_joined, each_at, each_of, IsStraight, IsGood, HasNot, IsWell, IsBlock, found, found_back, none_joined, none_cons, none_straight, either, well_front, well_back, AreApart, straight_well, place}
 
 -- The commands before the body, where the labels are these, and those behind it.
 abbrev pub head : ℕ → ℕ → List Command
