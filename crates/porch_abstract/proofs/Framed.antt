@@ -1,5 +1,5 @@
 -- Behind a step that goes on there is a frame.
-use Rattle.std.proofs.Common.{◌≡◌, ℕ, ℤ, pos, List, [], ◌∷◌, Bool, true, false, refl, sym, ap, subst, ◌∙◌, ◌+◌, length, Option, Some, None}
+use Rattle.std.proofs.Common.{◌≡◌, ℕ, ℤ, pos, List, [], ◌∷◌, Bool, true, false, refl, sym, subst, ◌∙◌, ◌+◌, length, Option, Some, None}
 use Rattle.std.specs.Prelude.{slice_get, unwrap_or, if◌then◌else◌, Result, Ok, Err}
 use Rattle.std.specs.Ordering.{int_eq}
 use Rattle.porch_values.specs.declared.acts.Act.{Act}
@@ -18,7 +18,7 @@ use Rattle.std.specs.declared.alloc.AllocError.{AllocError}
 use Rattle.porch_abstract.specs.declared.phase.AStep.{AStep}
 use Rattle.porch_abstract.specs.declared.phase.AStep.TheVariants as astep
 use Rattle.porch_abstract.specs.Held.{Answers, Continues}
-use Rattle.porch_abstract.specs.Machine.{kind_in, put, shown, turned, entered, Frame, State, Next, Goes, Ends, Meets, code_of, counted, determined, resulted, operated, operand_of, onward, at_label, received, returned, with_frames, with_objects, after, next, next_in}
+use Rattle.porch_abstract.specs.Machine.{kind_in, put, shown, turned, entered, Frame, State, Next, Goes, Ends, Meets, code_of, counted, determined, resulted, operated, operand_of, onward, at_label, received, returned, after, next, next_in}
 
 abbrev IsFramed : Next → Type 0
 IsFramed (Goes s) = s.frames ≡ [] → ⊥

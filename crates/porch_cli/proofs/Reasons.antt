@@ -1,11 +1,11 @@
 -- From the answers of the parts to those of the top call.
-use Rattle.std.proofs.Common.{◌≡◌, ◌≤◌, ◌<◌, ◌^◌, ◌⊎◌, ◌++◌, ℕ, ℤ, List, length, inl, inr, refl, sym, ap, subst, ◌∙◌, arith}
+use Rattle.std.proofs.Common.{◌≡◌, ◌≤◌, ◌^◌, ◌⊎◌, ◌++◌, ℕ, ℤ, List, length, inl, inr, refl, sym, ap, subst, ◌∙◌, arith}
 use Rattle.std.proofs.lemmas.List.{append-nil, length-append}
-use Rattle.std.specs.Prelude.{Result, Ok, Err, IsErrOf, codes, [], ◌∷◌}
+use Rattle.std.specs.Prelude.{Result, Err, IsErrOf, [], ◌∷◌}
 use Rattle.std.specs.declared.option.Option.{Option}
 use Rattle.std.specs.declared.option.Option.TheVariants.{Some, None}
 use Rattle.porch_edge.specs.Causes.{Rose}
-use Rattle.porch_edge.specs.Streams.{Grew, GrewByPrefix}
+use Rattle.porch_edge.specs.Streams.{Grew}
 use Rattle.porch_syntax.specs.declared.refusal.Refusal.{Refusal}
 use Rattle.porch_syntax.specs.declared.refusal.SourceFault.{SourceFault}
 use Rattle.porch_syntax.specs.declared.refusal.SourceFault.TheVariants.{Refused, NoMemory}
@@ -15,20 +15,18 @@ use Rattle.porch_values.specs.declared.acts.Act.{Act}
 use Rattle.porch_objects.specs.Meaning as meaning
 use Rattle.porch_objects.specs.Meaning.{Meaning}
 use Rattle.porch_flat.specs.declared.flat.Flat.{Flat}
-use Rattle.porch_abstract.specs.Run.{Means}
-use Rattle.porch_machine.specs.Column.{Setting, widths_of}
+use Rattle.porch_machine.specs.Column.{widths_of}
 use Rattle.porch_machine.specs.ByteRun.{ByteEnd, Ended, Trap, StackFull, Paused, ByteRun, RunsTo}
 use Rattle.porch_machine.specs.Steps.{IsSetting}
-use Rattle.porch_machine.specs.Laws.{RunsAgree, EndAgrees, MeetsWithin, IsSame}
+use Rattle.porch_machine.specs.Laws.{RunsAgree, EndAgrees}
 use Rattle.porch_cli.specs.declared.reading.ReadStop.{ReadStop}
 use Rattle.porch_cli.specs.declared.reading.ReadStop.TheVariants as stop
 use Rattle.porch_cli.specs.declared.status.Status.{Status}
 use Rattle.porch_cli.specs.declared.status.Status.TheVariants as status
 use Rattle.porch_cli.specs.Words.{IsExec}
 use Rattle.porch_syntax.specs.Token.{decimal_of}
-use Rattle.porch_cli.specs.Lines.{line_of}
-use Rattle.porch_cli.specs.Running.{run_by, RanBytes, RanPartly, RunsFlat}
-use Rattle.porch_cli.specs.Answers.{exec_setting, meaning_in, HasRead, IsProgram, IsCompiled, Ran, RanText, RanTextPartly, RanProgram, RanProgramPartly, RanInto, Changes, HasReason, RunsText, RunsTree, RunsProgram, refused_for, stopped_for, Closes, HasAnswered, RanSource, IsUsage, IsRefused, IsWriteFault, HasLine, HasLinePrefix, status_of_end, status_of_meaning, IsRun, Completes, CompletesAsMeant, Unordered, Refuses}
+use Rattle.porch_cli.specs.Running.{run_by, RanBytes, RunsFlat}
+use Rattle.porch_cli.specs.Answers.{exec_setting, meaning_in, HasRead, IsProgram, IsCompiled, Ran, RanProgram, RanInto, Changes, HasReason, RunsText, RunsTree, RunsProgram, refused_for, stopped_for, HasAnswered, RanSource, IsUsage, IsRefused, IsWriteFault, HasLine, HasLinePrefix, status_of_end, status_of_meaning, IsRun, Completes, CompletesAsMeant, Unordered, Refuses}
 use Rattle.porch_cli.proofs.Runs.{unchanged, same_run}
 
 -- what the run of a machine answers is what the run of its program does

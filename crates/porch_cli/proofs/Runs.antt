@@ -1,21 +1,14 @@
 -- Runs over bytes, step by step.
-use Rattle.std.proofs.Common.{◌≡◌, ◌≤◌, ◌<◌, ◌+◌, ◌++◌, ◌&&◌, ℕ, zero, suc, ℤ, List, [], ◌∷◌, Bool, true, false, refl, sym, ap, subst, ◌∙◌, arith, append_assoc, add_comm}
+use Rattle.std.proofs.Common.{◌≡◌, ◌≤◌, ◌+◌, ◌++◌, ◌&&◌, ℕ, zero, suc, ℤ, List, [], Bool, true, false, refl, sym, ap, ◌∙◌, arith, append_assoc, add_comm}
 use Rattle.std.proofs.lemmas.List.{append-nil}
-use Rattle.std.proofs.lemmas.Bool.Decides.{nat_tests}
-use Rattle.std.specs.Prelude.{if◌then◌else◌, nat_le, nat_lt, slice_get, Result, Ok, Err}
-use Rattle.std.specs.Ordering.{int_eq}
+use Rattle.std.specs.Prelude.{if◌then◌else◌, nat_le}
 use Rattle.std.specs.declared.option.Option.{Option}
 use Rattle.std.specs.declared.option.Option.TheVariants.{Some, None}
-use Rattle.porch_edge.specs.Causes.{Rose}
-use Rattle.porch_edge.specs.Streams.{Grew, GrewByPrefix, Grew-twice}
+use Rattle.porch_edge.specs.Streams.{Grew, Grew-twice}
 use Rattle.porch_values.specs.declared.acts.Act.{Act}
-use Rattle.porch_flat.specs.declared.flat.Command.{Command}
-use Rattle.porch_flat.specs.declared.flat.Command.TheVariants as command
 use Rattle.porch_flat.specs.declared.flat.Flat.{Flat}
-use Rattle.porch_abstract.specs.Run.{counts}
-use Rattle.porch_machine.specs.Column.{Frame, Bytes, Setting, Column, Goes, Shows, Ends, Traps, Full, column, step_in, code, after, returned, received, call, resulted, prepared}
+use Rattle.porch_machine.specs.Column.{Bytes, Setting, Column, Goes, Shows, Ends, Traps, Full, column, prepared}
 use Rattle.porch_machine.specs.ByteRun.{ByteEnd, Ended, Trap, StackFull, Paused, ByteRun, run_to, then_on, counts_next, RunsTo}
-use Rattle.porch_machine.specs.Steps.{left_of}
 use Rattle.porch_cli.specs.declared.status.Status.{Status}
 use Rattle.porch_cli.specs.declared.status.Status.TheVariants as status
 use Rattle.porch_cli.specs.Running.{run_by, RanBytes, RanPartly, RunsFlat, StepsOn, StopsHere, BreaksOff, Advances}

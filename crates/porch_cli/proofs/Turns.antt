@@ -1,10 +1,10 @@
 -- Numbers of turns, from digits.
-use Rattle.std.proofs.Common.{◌≡◌, ◌≤◌, ◌<◌, ◌+◌, ◌-◌, ◌*◌, ◌/◌, ◌^◌, ℕ, List, [], ◌∷◌, Bool, true, false, ◌&&◌, fold, IsTrue, refl, sym, ap, subst, length, inl, inr, ◌⊎◌, ◌↔◌, get_or, suc, ◌∙◌, arith}
+use Rattle.std.proofs.Common.{◌≡◌, ◌≤◌, ◌<◌, ◌+◌, ◌-◌, ◌*◌, ◌^◌, ℕ, List, [], ◌∷◌, Bool, true, false, ◌&&◌, fold, refl, sym, ap, subst, length, inl, inr, ◌⊎◌, ◌↔◌, get_or, ◌∙◌, arith}
 use Rattle.std.proofs.lemmas.Bool.Decides.{nat_tests}
 use Rattle.std.specs.Prelude.{nat_le, if◌then◌else◌, codes, Some, None}
 use Rattle.std.specs.declared.option.Option.{Option}
 use Rattle.std.specs.List.{list_all}
-use Rattle.porch_syntax.specs.Token.{is_digit, decimal_of}
+use Rattle.porch_syntax.specs.Token.{is_digit}
 use Rattle.porch_cli.specs.Words.{value_behind, IsTurns, IsExec}
 
 -- one digit more

@@ -1,5 +1,5 @@
 -- What each answer of the top call says.
-use Rattle.std.specs.Prelude.{ℕ, ◌≡◌, ◌≤◌, ◌<◌, ◌^◌, ◌⊎◌, List, [], ◌++◌, length, true, false, ⊤, Result, Ok, Err, IsErrOf, refl}
+use Rattle.std.specs.Prelude.{ℕ, ◌≡◌, ◌≤◌, ◌^◌, ◌⊎◌, List, [], ◌++◌, length, ⊤, Result, Ok, Err, IsErrOf}
 use Rattle.std.specs.Prelude.{map, String, string_bytes}
 use Rattle.std.specs.Global.{Global}
 use Rattle.std.specs.declared.option.Option.{Option}
@@ -12,7 +12,6 @@ use Rattle.porch_syntax.specs.declared.refusal.SourceFault.TheVariants.{Refused,
 use Rattle.porch_syntax.specs.Tree.{Program}
 use Rattle.porch_syntax.specs.Language.{IsSource, IsRefusal}
 use Rattle.porch_types.specs.Leaves.{kind_types}
-use Rattle.porch_values.specs.declared.widths.Widths.{Widths}
 use Rattle.porch_values.specs.declared.acts.Act.{Act}
 use Rattle.porch_objects.specs.Meaning as meaning
 use Rattle.porch_objects.specs.Meaning.{Meaning}
@@ -31,7 +30,7 @@ use Rattle.porch_cli.specs.declared.status.Status.TheVariants as status
 use Rattle.porch_cli.specs.Words.{IsExec}
 use Rattle.porch_cli.specs.Lines.{line_of}
 use Rattle.std.specs.declared.alloc.AllocError.{AllocError}
-use Rattle.porch_cli.specs.Running.{run_by, RanBytes, RanPartly, RunsFlat}
+use Rattle.porch_cli.specs.Running.{run_by, RanBytes, RunsFlat}
 
 -- what exec runs a program on: the layout le64, a stack of 1,048,576 bytes and a heap of 8,388,608
 abbrev pub exec_setting : Setting

@@ -1,7 +1,6 @@
 -- The closing line of each status.
 use Rattle.std.specs.Prelude.{ℕ, ◌+◌, ◌==◌, List, [], ◌∷◌, ◌++◌, count_by, take, codes, if◌then◌else◌}
 use Rattle.std.specs.Fmt.{decimal, signed_decimal}
-use Rattle.porch_syntax.specs.declared.refusal.Refusal.{Refusal}
 use Rattle.porch_syntax.specs.declared.refusal.Rule.{Rule}
 use Rattle.porch_syntax.specs.declared.refusal.Rule.TheVariants as rule
 use Rattle.porch_values.specs.declared.acts.Act.{Act}

@@ -1,9 +1,8 @@
 -- How the run of a flat program goes on, step by step. Contracts inside this crate cite it; what a caller sees of a run is
 -- RanBytes alone.
-use Rattle.std.specs.Prelude.{ℕ, suc, ◌+◌, ◌≡◌, ◌≤◌, ◌<◌, List, [], ◌++◌, ⊤, Option, Some, None}
+use Rattle.std.specs.Prelude.{ℕ, suc, ◌≡◌, ◌≤◌, ◌<◌, List, [], ◌++◌, Option, Some, None}
 use Rattle.porch_edge.specs.Causes.{Rose}
 use Rattle.porch_edge.specs.Streams.{Grew, GrewByPrefix}
-use Rattle.porch_values.specs.declared.acts.Act.{Act}
 use Rattle.porch_flat.specs.declared.flat.Flat.{Flat}
 use Rattle.porch_machine.specs.Column.{Bytes, Setting}
 use Rattle.porch_machine.specs.ByteRun.{ByteEnd, Ended, Trap, StackFull, Paused, ByteRun, run_to, RunsTo}

@@ -1,7 +1,4 @@
-use Rattle.std.proofs.Common.{◌≡◌, ◌≤◌, ◌<◌, ◌⊎◌, [], refl}
-use Rattle.porch_machine.specs.Column.{Goes, Shows, column}
-use Rattle.porch_machine.specs.ByteRun.{counts_next}
-use Rattle.porch_cli.specs.Running.{StepsOn, BreaksOff}
+use Rattle.std.proofs.Common.{[]}
 use Rattle.porch_cli.proofs.Counted.{goes_within, shows_within, left_over, one_left}
 use Rattle.porch_cli.proofs.Runs.{unchanged, goes_on, shows_on}
 use Rattle.porch_cli.proofs.exec.advance.Goals as goal

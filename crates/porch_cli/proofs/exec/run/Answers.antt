@@ -1,4 +1,4 @@
-use Rattle.std.proofs.Common.{◌≡◌, ℕ, refl, ap, subst, ◌∙◌, arith, Some}
+use Rattle.std.proofs.Common.{◌≡◌, refl, ap, subst, ◌∙◌, arith, Some}
 use Rattle.porch_machine.specs.Column.{Bytes, Setting}
 use Rattle.porch_cli.specs.Running.{Advances, StepsOn}
 use Rattle.porch_cli.proofs.Runs.{Came, came_nowhere, came_on, runs_over}

@@ -1,4 +1,3 @@
-use Rattle.porch_cli.specs.Answers.{HasAnswered}
 use Rattle.porch_cli.proofs.Reasons.{has_done, has_trap, has_stack_full, has_paused, has_usage, has_refused, has_read_fault, has_no_memory, has_write_fault, has_written, has_unordered, has_refuses, has_completes, has_completes_as_meant, has_line, has_line_or_prefix}
 use Rattle.porch_cli.proofs.top.porch.Goals as goal
 

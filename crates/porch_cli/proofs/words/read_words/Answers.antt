@@ -1,5 +1,4 @@
-use Rattle.std.proofs.Common.{◌≡◌, List, [], ◌∷◌, map, refl}
-use Rattle.std.specs.Prelude.{codes, string_bytes}
+use Rattle.std.proofs.Common.{refl}
 use Rattle.porch_cli.proofs.Turns.{three, ordered_by_three}
 use Rattle.porch_cli.proofs.words.read_words.Goals as goal
 

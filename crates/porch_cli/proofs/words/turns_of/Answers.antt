@@ -1,4 +1,4 @@
-use Rattle.std.proofs.Common.{ℕ, ◌≡◌, ◌≤◌, ◌<◌, ◌^◌, ◌⊎◌, inl, inr, arith, length}
+use Rattle.std.proofs.Common.{◌≡◌, ◌≤◌, ◌<◌, ◌^◌, ◌⊎◌, inl, inr, arith, length}
 use Rattle.porch_cli.proofs.Turns.{turns_named, turns_out_of_range, turns_unread}
 use Rattle.porch_cli.proofs.words.turns_of.Goals as goal
 
