@@ -7,7 +7,7 @@ from pathlib import Path
 TOP = Path(__file__).resolve().parent.parent
 # | promise | `file` | `function` | `clause`, `clause` |
 ROW = re.compile(r"^\|[^|]*\| `(crates/[^`]+)` \| `(\w+)` \| ([^|]+) \|$")
-HEADERS = ["| Promise | File | Function | Clauses |", "|---|---|---|---|"]
+HEADERS = ["| Promise | File | Function | Clauses |", "| Rung | File | Function | Clauses |", "|---|---|---|---|"]
 
 
 def contract(text, function):
