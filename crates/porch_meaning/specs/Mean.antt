@@ -105,7 +105,8 @@ module _ (w : Widths) (n : ℕ) (frame : List ℕ) where
   abbrev pub set : ℕ → Node → State → Outcome
   set x e s = and_then (eval e s) (λ v s. used v s (λ z. done (with_objects s (stored s.objects (object_of x s) 0 (number z)))))
 
-  -- at most k starts of a loop's body
+  -- At most k starts of a loop's body. With k above n the bound is never what ends it: each start is a turn, and `turn`
+  -- stops the run after n of them.
   abbrev pub loop : ℕ → Node → (State → Outcome) → State → Outcome
   loop zero test body s = Stopped s
   loop (suc k) test body s =
