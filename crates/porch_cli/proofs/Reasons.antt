@@ -5,7 +5,7 @@ use Rattle.std.specs.Prelude.{Result, Err, IsErrOf, [], ◌∷◌}
 use Rattle.std.specs.declared.option.Option.{Option}
 use Rattle.std.specs.declared.option.Option.TheVariants.{Some, None}
 use Rattle.porch_edge.specs.Causes.{Rose}
-use Rattle.porch_edge.specs.Streams.{Grew}
+use Rattle.porch_edge.specs.Streams.{Grew, GrewByPrefix}
 use Rattle.porch_syntax.specs.declared.refusal.Refusal.{Refusal}
 use Rattle.porch_syntax.specs.declared.refusal.SourceFault.{SourceFault}
 use Rattle.porch_syntax.specs.declared.refusal.SourceFault.TheVariants.{Refused, NoMemory}
@@ -18,7 +18,7 @@ use Rattle.porch_flat.specs.declared.flat.Flat.{Flat}
 use Rattle.porch_machine.specs.Column.{widths_of}
 use Rattle.porch_machine.specs.ByteRun.{ByteEnd, Ended, Trap, StackFull, Paused, ByteRun, RunsTo}
 use Rattle.porch_machine.specs.Steps.{IsSetting}
-use Rattle.porch_machine.specs.Laws.{RunsAgree, EndAgrees}
+use Rattle.porch_machine.specs.Laws.{RunsAgree, RunsEnd, EndAgrees}
 use Rattle.porch_cli.specs.declared.reading.ReadStop.{ReadStop}
 use Rattle.porch_cli.specs.declared.reading.ReadStop.TheVariants as stop
 use Rattle.porch_cli.specs.declared.status.Status.{Status}
@@ -26,8 +26,8 @@ use Rattle.porch_cli.specs.declared.status.Status.TheVariants as status
 use Rattle.porch_cli.specs.Words.{IsExec}
 use Rattle.porch_syntax.specs.Token.{decimal_of}
 use Rattle.porch_cli.specs.Running.{run_by, RanBytes, RunsFlat}
-use Rattle.porch_cli.specs.Answers.{exec_setting, meaning_in, HasRead, IsProgram, IsCompiled, Ran, RanProgram, RanInto, Changes, HasReason, RunsText, RunsTree, RunsProgram, refused_for, stopped_for, HasAnswered, RanSource, IsUsage, IsRefused, IsWriteFault, HasLine, HasLinePrefix, status_of_end, status_of_meaning, IsRun, Completes, CompletesAsMeant, Unordered, Refuses}
-use Rattle.porch_cli.proofs.Runs.{unchanged, same_run}
+use Rattle.porch_cli.specs.Answers.{exec_setting, meaning_in, HasRead, IsProgram, IsCompiled, Ran, RanProgram, RanProgramPartly, RanInto, Changes, HasReason, RunsText, RunsTree, RunsProgram, refused_for, stopped_for, HasAnswered, RanSource, IsUsage, IsRefused, IsWriteFault, HasLine, HasLinePrefix, status_of_end, status_of_meaning, IsRun, Completes, CompletesAsMeant, Unordered, Refuses}
+use Rattle.porch_cli.proofs.Runs.{unchanged}
 
 -- what the run of a machine answers is what the run of its program does
 pub run_of_machine : (flat : Flat) (budget : ℕ) (out out' : Option (List ℕ)) (f f' : ℕ) (s : Status) → RunsFlat flat exec_setting budget out out' f f' s → RunsProgram flat budget out out' f f' s
@@ -49,12 +49,18 @@ exec_within words turns (inr w) = w.2.greatest
 pub exec_is_setting : IsSetting exec_setting
 exec_is_setting = record { layout_is = refl; stack_least = omega arith; stack_most = omega arith; heap_least = omega arith; heap_most = omega arith }
 
-module _ (p : Program) (flat : Flat) (budget : ℕ) (compiled : IsCompiled p flat) (law : RunsAgree) where
+module _ (p : Program) (flat : Flat) (budget : ℕ) (compiled : IsCompiled p flat) (law : RunsAgree) (ends : RunsEnd) where
   agrees_with : (r : ByteRun) → RunsTo flat exec_setting budget r → EndAgrees (meaning_in p budget) r r.ending
   agrees_with r run = law flat exec_setting budget r (meaning_in p budget) compiled.valid exec_is_setting run (compiled.same (widths_of exec_setting.layout) budget [])
 
   ran_program : (out out' : Option (List ℕ)) (ending : ByteEnd) (turns : ℕ) → RanBytes flat exec_setting budget out out' ending turns → RanProgram p budget out out' ending turns
   ran_program out out' ending turns ran = record { flat = flat; compiled = compiled; ran = ran; agrees = agrees_with (run_by ending turns ran.output) ran.run }
+
+  -- the run of a program of whose output a beginning was written
+  ran_partly : (out out' : Option (List ℕ)) → ((r : ByteRun) → RunsTo flat exec_setting budget r → GrewByPrefix out out' r.output) → RanProgramPartly p budget out out'
+  ran_partly out out' part =
+      let its = ends flat exec_setting budget compiled.valid exec_is_setting in
+      record { flat = flat; compiled = compiled; run = its.0; runs = its.1; grew = part its.0 its.1; agrees = agrees_with its.0 its.1 }
 
   -- a compiled program was run
   pub run_compiled : (out out' : Option (List ℕ)) (f f' : ℕ) (s : Status) → RunsProgram flat budget out out' f f' s → RunsTree p budget out out' f f' s
@@ -63,7 +69,7 @@ module _ (p : Program) (flat : Flat) (budget : ℕ) (compiled : IsCompiled p fla
   run_compiled out out' f f' (status.StackFull asked left) r = (r.0, ran_program out out' (StackFull asked left) r.0 r.1)
   run_compiled out out' f f' (status.Paused turns) r = ran_program out out' Paused turns r
   run_compiled out out' f f' (status.Refused x) r = absurd r
-  run_compiled out out' f f' status.WriteFault r = (r.rose, record { flat = flat; compiled = compiled; part = r.part; agrees = agrees_with })
+  run_compiled out out' f f' status.WriteFault r = (r.rose, ran_partly out out' r.part)
   run_compiled out out' f f' status.NoMemory r = r
   run_compiled out out' f f' status.Usage r = absurd r
   run_compiled out out' f f' status.ReadFault r = absurd r
@@ -154,13 +160,10 @@ into words text out out' e t k = record {
     ran = record {
       flat = k.ran.ran.flat;
       compiled = k.ran.ran.compiled;
-      part = λ r run.
-          let one = same_run k.ran.ran.flat exec_setting k.budget (run_by e t k.ran.ran.ran.output) r k.ran.ran.ran.run run in
-          record { more = k.ran.ran.ran.output; missing = []; split = ap (λ (b : ByteRun). b.output) (sym one) ∙ sym (append-nil k.ran.ran.ran.output); grew = k.ran.ran.ran.grew };
-      agrees = λ r run.
-          let one = same_run k.ran.ran.flat exec_setting k.budget (run_by e t k.ran.ran.ran.output) r k.ran.ran.ran.run run in
-          let P : ByteRun → Type 0 = λ b. EndAgrees (meaning_in k.ran.program k.budget) b b.ending in
-          subst P one k.ran.ran.agrees;
+      run = run_by e t k.ran.ran.ran.output;
+      runs = k.ran.ran.ran.run;
+      grew = record { more = k.ran.ran.ran.output; missing = []; split = sym (append-nil k.ran.ran.ran.output); grew = k.ran.ran.ran.grew };
+      agrees = k.ran.ran.agrees;
     };
   };
 }

@@ -1,5 +1,5 @@
 -- Runs over bytes, step by step.
-use Rattle.std.proofs.Common.{◌≡◌, ◌≤◌, ◌+◌, ◌++◌, ◌&&◌, ℕ, zero, suc, ℤ, List, [], Bool, true, false, refl, sym, ap, ◌∙◌, arith, append_assoc, add_comm}
+use Rattle.std.proofs.Common.{◌≡◌, ◌≤◌, ◌+◌, ◌++◌, ◌&&◌, ℕ, zero, suc, ℤ, List, [], Bool, true, false, refl, sym, ap, ◌∙◌, arith, append_assoc}
 use Rattle.std.proofs.lemmas.List.{append-nil}
 use Rattle.std.specs.Prelude.{if◌then◌else◌, nat_le}
 use Rattle.std.specs.declared.option.Option.{Option}
@@ -8,7 +8,7 @@ use Rattle.porch_edge.specs.Streams.{Grew, Grew-twice}
 use Rattle.porch_values.specs.declared.acts.Act.{Act}
 use Rattle.porch_flat.specs.declared.flat.Flat.{Flat}
 use Rattle.porch_machine.specs.Column.{Bytes, Setting, Column, Goes, Shows, Ends, Traps, Full, column, prepared}
-use Rattle.porch_machine.specs.ByteRun.{ByteEnd, Ended, Trap, StackFull, Paused, ByteRun, run_to, then_on, counts_next, RunsTo}
+use Rattle.porch_machine.specs.ByteRun.{ByteEnd, Ended, Trap, StackFull, Paused, ByteRun, run_to, then_on, counts_next}
 use Rattle.porch_cli.specs.declared.status.Status.{Status}
 use Rattle.porch_cli.specs.declared.status.Status.TheVariants as status
 use Rattle.porch_cli.specs.Running.{run_by, RanBytes, RanPartly, RunsFlat, StepsOn, StopsHere, BreaksOff, Advances}
@@ -159,12 +159,3 @@ module _ (flat : Flat) (on : Setting) (n : ℕ) where
   runs_over m m' h h' h'' f f' f'' (status.Refused r) le c a = absurd a
   runs_over m m' h h' h'' f f' f'' status.ReadFault le c a = absurd a
   runs_over m m' h h' h'' f f' f'' status.NoMemory le c a = absurd a
-
-  same_one : (a b : Option ByteRun) (r r' : ByteRun) → a ≡ b → a ≡ Some r → b ≡ Some r' → r ≡ r'
-  same_one a b r r' e p q = cc
-
-  -- a run has one end
-  pub same_run : (r r' : ByteRun) → RunsTo flat on n r → RunsTo flat on n r' → r ≡ r'
-  same_run r r' x y =
-      same_one (run_to flat on n (x.steps + y.steps) (prepared flat on) []) (run_to flat on n (y.steps + x.steps) (prepared flat on) []) r r' (ap (λ (k : ℕ). run_to flat on n k (prepared flat on) []) (add_comm x.steps y.steps))
-      (longer x.steps y.steps (prepared flat on) [] r x.ends) (longer y.steps x.steps (prepared flat on) [] r' y.ends)

@@ -92,8 +92,10 @@ pub record Ran (words : List (List ℕ)) (text : List ℕ) (out out' : Option (L
 pub record RanProgramPartly (program : Program) (budget : ℕ) (out out' : Option (List ℕ)) : Type 0 where
   pub flat : Flat
   pub compiled : IsCompiled program flat
-  pub part : (r : ByteRun) → RunsTo flat exec_setting budget r → GrewByPrefix out out' r.output
-  pub agrees : (r : ByteRun) → RunsTo flat exec_setting budget r → EndAgrees (meaning_in program budget) r r.ending
+  pub run : ByteRun
+  pub runs : RunsTo flat exec_setting budget run
+  pub grew : GrewByPrefix out out' run.output
+  pub agrees : EndAgrees (meaning_in program budget) run run.ending
 
 pub record RanTextPartly (text : List ℕ) (budget : ℕ) (out out' : Option (List ℕ)) : Type 0 where
   pub program : Program

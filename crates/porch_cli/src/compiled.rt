@@ -12,7 +12,7 @@ use porch_edge::Sink;
 use porch_flat::{Valid, ValidFault};
 use porch_layout::{Layout, built_in};
 use porch_lower::lower;
-use porch_machine::{Machine, runs_agree};
+use porch_machine::{Machine, runs_agree, runs_end};
 use porch_syntax::Tree;
 use std::alloc::{AllocError, Global};
 
@@ -66,6 +66,7 @@ pub fn run_tree<O: Sink>(alloc: Global, tree: &Tree, budget: u64, out: &mut O) -
     ensures later { O.faults out.old ≤ O.faults out.new }
 {
     runs_agree();
+    runs_end();
     match compiled(alloc, tree) {
         Ok(program) => run_program(alloc, &program, budget, out),
         Err(_) => Status::NoMemory,

@@ -8,3 +8,4 @@ pub mod Simple
 pub mod Simulates
 pub mod OneRun
 pub mod Runs
+pub mod Ending

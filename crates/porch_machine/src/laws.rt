@@ -1,6 +1,6 @@
 //! What is true of whole runs over bytes.
 
-ghost use Rattle.porch_machine.specs.Laws.{RunsAgree, RunsAreOne};
+ghost use Rattle.porch_machine.specs.Laws.{RunsAgree, RunsAreOne, RunsEnd};
 
 /// A run over bytes has one end.
 pub fn runs_are_one()
@@ -10,4 +10,9 @@ pub fn runs_are_one()
 /// A run over bytes of a valid program agrees with what the program means.
 pub fn runs_agree()
     ensures { RunsAgree }
+{}
+
+/// Each run over bytes of a valid program ends.
+pub fn runs_end()
+    ensures { RunsEnd }
 {}

@@ -13,6 +13,6 @@ mod machine;
 mod resolving;
 pub mod step;
 
-pub use laws::{runs_agree, runs_are_one};
+pub use laws::{runs_agree, runs_are_one, runs_end};
 pub use machine::Machine;
 pub use step::Step;
