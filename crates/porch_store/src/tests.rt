@@ -9,6 +9,7 @@ use byteorder::{BigEndian, ByteOrder};
 use porch_edge::{DirDisk, Disk, Failed, FileName, MemDisk, Pick, Stop};
 use std::alloc::{AllocError, Global};
 use std::fs;
+use std::os::unix::fs::symlink;
 use std::test::Fail;
 
 // A whole checkpoint of 200 bytes.
@@ -279,6 +280,10 @@ fn commits_go_to_a_real_folder(rt: HostRuntime) -> Result<(), Fail> {
     fs::create_dir(&rt, "ck.b")?;
     assert_eq!(rt; commit_to(&mut disk, &image(1)[1..]), Err(Failed));
     fs::remove_dir(&rt, "ck.b")?;
+    // Nor can a file be made in a folder that gives no leave: in this one even the machine's owner has none.
+    symlink(&rt, "/sys/kernel/ck.a", "ck.a")?;
+    assert_eq!(rt; commit_to(&mut disk, &image(1)[1..]), Err(Failed));
+    fs::remove_file(&rt, "ck.a")?;
     for number in 1..=3 {
         let file = if number == 2 {
             FileName::CkB
