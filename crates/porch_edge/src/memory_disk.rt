@@ -62,6 +62,7 @@ impl MemDisk {
         ensures empty { files_held result ≡ no_files }
         ensures settled { (file : FileName) → IsDurable result file }
         ensures fresh { IsFresh result }
+        ensures faults { result.faults ≡ 0 }
     {
         MemDisk {
             alloc,
@@ -84,6 +85,7 @@ impl MemDisk {
     pub fn fail_at(&mut self, call: u64)
         ensures plan { plan_of self.new ≡ plan_to_fail (plan_of self.old) call }
         ensures same { IsUntouched self.old self.new }
+        ensures faults { self.new.faults ≡ self.old.faults }
     {
         self.plan.fail_at(call);
     }
@@ -94,6 +96,7 @@ impl MemDisk {
     pub fn stop_at(&mut self, stop: Stop)
         ensures plan { plan_of self.new ≡ plan_to_stop (plan_of self.old) stop }
         ensures same { IsUntouched self.old self.new }
+        ensures faults { self.new.faults ≡ self.old.faults }
     {
         self.plan.stop_at(stop);
     }
@@ -105,6 +108,7 @@ impl MemDisk {
         ensures leaves { OnOk result (Follows file (λ _ c. c ≡ bytes.now) (mem_state self.old).leaves (mem_state self.new).leaves) }
         ensures refused { OnErr result (IsUntouched self.old self.new) }
         ensures plan { plan_of self.new ≡ plan_of self.old }
+        ensures faults { self.new.faults ≡ self.old.faults }
     {
         if bytes.len() as u64 > LONGEST {
             return Err(AllocError);
@@ -119,6 +123,7 @@ impl MemDisk {
         ensures leaves { (mem_state self).leaves (files_held result) }
         ensures settled { (file : FileName) → IsDurable result file }
         ensures fresh { IsFresh result }
+        ensures faults { result.faults ≡ self.faults }
     {
         let MemDisk {
             alloc,

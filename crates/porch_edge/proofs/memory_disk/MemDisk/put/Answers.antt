@@ -18,4 +18,5 @@ returns c = record {
   leaves = on_ok_weaker c.put.result (λ l. follows_put c.args.bytes.now c.args.self.now.kept c.if-bytes-gt-LONGEST.false l) c.put.ensures.ok;
   refused = both_err c.put.result (λ files calls. record { files = files; calls = calls }) c.put.ensures.files_err c.put.ensures.calls_err;
   plan = refl;
+  faults = refl;
 }
