@@ -23,7 +23,7 @@ const STACK: u64 = 1_048_576;
 const HEAP: u64 = 8_388_608;
 
 /// The layout of `exec`.
-fn layout_of_exec() -> Layout
+pub fn layout_of_exec() -> Layout
     ensures { result ≡ le64 }
 {
     match built_in("le64") {

@@ -3,12 +3,11 @@
 ghost use Rattle.std.specs.Prelude.{◌≡◌, None};
 ghost use Rattle.porch_abstract.specs.Held.{Fits as FitsObjects, Continues};
 ghost use Rattle.porch_abstract.specs.declared.phase.AStep.TheVariants.{Went};
-ghost use Rattle.porch_machine.specs.Steps.{Fits as FitsBytes, le64};
+ghost use Rattle.porch_machine.specs.Steps.{Fits as FitsBytes};
 
-use crate::compiled::compiled;
+use crate::compiled::{compiled, layout_of_exec};
 use porch_abstract::{AStep, Abstract};
 use porch_flat::{Command, Flat, Function, Operand, Valid};
-use porch_layout::{Layout, built_in};
 use porch_lower::sources_are_lowerable;
 use porch_machine::{Machine, Step};
 use porch_syntax::parse;
@@ -91,16 +90,6 @@ fn walk_both(
     Ok(Walk::Long)
 }
 
-/// The layout that the machines are tried under.
-fn layout() -> Layout
-    ensures { result ≡ le64 }
-{
-    match built_in("le64") {
-        Some(layout) => layout,
-        None => unreachable!(),
-    }
-}
-
 /// Where the two machines come to with a program, and what they show.
 fn walked(alloc: Global, program: &Valid) -> Result<(Walk, Vec<u8>), AllocError> {
     let widths = Widths {
@@ -108,64 +97,66 @@ fn walked(alloc: Global, program: &Valid) -> Result<(Walk, Vec<u8>), AllocError>
         wide: true,
     };
     let mut objects = Abstract::new(alloc, program, widths)?;
-    let mut bytes = Machine::prepare(alloc, program, &layout(), 4096, 16)?;
+    let mut bytes = Machine::prepare(alloc, program, &layout_of_exec(), 4096, 16)?;
     let mut shown = Vec::new(alloc);
     let end = walk_both(program, &mut objects, &mut bytes, &mut shown)?;
     Ok((end, shown))
 }
 
+/// Programs, what they show, and where they come to.
+const PROGRAMS: [(&str, &[u8], Walk); 10] = [
+    (
+        "int main(void){putchar('A');return 0;}",
+        b"A",
+        Walk::Ended(0),
+    ),
+    ("int main(void){}", b"", Walk::Ended(0)),
+    (
+        "int main(void){return 0-2147483647-1;}",
+        b"",
+        Walk::Ended(-2147483648),
+    ),
+    (
+        "int main(void){int i=0;while(i<3){putchar('0'+i);i=i+1;}return 0;}",
+        b"012",
+        Walk::Ended(0),
+    ),
+    (
+        "int main(void){int n=0;int m;while(n<2){m=0;while(m<2){putchar('a'+n*2+m);m=m+1;}n=n+1;}return n;}",
+        b"abcd",
+        Walk::Ended(2),
+    ),
+    (
+        "int main(void){int a=2;int b=3;while(b<a*a){b=b+1;putchar(b*20-7*(a<b)-4);}return b-a*b;}",
+        b"E",
+        Walk::Ended(-4),
+    ),
+    (
+        "int main(void){int i=1;i=1+2*(i-(4-i)*(i+6))-(i<2)*(2<i);putchar(i+100);return i;}",
+        b"=",
+        Walk::Ended(-39),
+    ),
+    (
+        "int main(void){putchar(1+2*(3+4*(5+6)));putchar(0-1);while(1){return 5;}return 6;}",
+        b"_\xff",
+        Walk::Ended(5),
+    ),
+    (
+        "int main(void){int i=2147483647;putchar('x');i=i+1;return i;}",
+        b"x",
+        Walk::Met(Act::Overflow),
+    ),
+    (
+        "int main(void){int i=0-46341;return i*i;}",
+        b"",
+        Walk::Met(Act::Overflow),
+    ),
+];
+
 #[test]
 fn machines_go_side_by_side(rt: HostRuntime) -> Result<(), Fail> {
     let alloc = rt.alloc();
-    let rows: [(&str, &[u8], Walk); 10] = [
-        (
-            "int main(void){putchar('A');return 0;}",
-            b"A",
-            Walk::Ended(0),
-        ),
-        ("int main(void){}", b"", Walk::Ended(0)),
-        (
-            "int main(void){return 0-2147483647-1;}",
-            b"",
-            Walk::Ended(-2147483648),
-        ),
-        (
-            "int main(void){int i=0;while(i<3){putchar('0'+i);i=i+1;}return 0;}",
-            b"012",
-            Walk::Ended(0),
-        ),
-        (
-            "int main(void){int n=0;int m;while(n<2){m=0;while(m<2){putchar('a'+n*2+m);m=m+1;}n=n+1;}return n;}",
-            b"abcd",
-            Walk::Ended(2),
-        ),
-        (
-            "int main(void){int a=2;int b=3;while(b<a*a){b=b+1;putchar(b*20-7*(a<b)-4);}return b-a*b;}",
-            b"E",
-            Walk::Ended(-4),
-        ),
-        (
-            "int main(void){int i=1;i=1+2*(i-(4-i)*(i+6))-(i<2)*(2<i);putchar(i+100);return i;}",
-            b"=",
-            Walk::Ended(-39),
-        ),
-        (
-            "int main(void){putchar(1+2*(3+4*(5+6)));putchar(0-1);while(1){return 5;}return 6;}",
-            b"_\xff",
-            Walk::Ended(5),
-        ),
-        (
-            "int main(void){int i=2147483647;putchar('x');i=i+1;return i;}",
-            b"x",
-            Walk::Met(Act::Overflow),
-        ),
-        (
-            "int main(void){int i=0-46341;return i*i;}",
-            b"",
-            Walk::Met(Act::Overflow),
-        ),
-    ];
-    for (text, out, end) in rows {
+    for (text, out, end) in PROGRAMS {
         match valid_of(alloc, text.as_bytes()) {
             Some(program) => {
                 let (came, shown) = walked(alloc, &program)?;
@@ -178,7 +169,7 @@ fn machines_go_side_by_side(rt: HostRuntime) -> Result<(), Fail> {
     Ok(())
 }
 
-/// A program of `main` with so many variables, which returns the last one's number.
+/// A program of `main` with so many variables, all ints, which returns 7.
 fn wide(alloc: Global, count: usize) -> Result<Flat, AllocError> {
     let mut vars = Vec::new(alloc);
     for _ in 0..count {
@@ -209,7 +200,7 @@ fn called(alloc: Global, count: usize, stack: u64) -> Result<Option<Step>, Alloc
     }
     match Valid::new(alloc, wide(alloc, count)?) {
         Ok(program) => {
-            let mut machine = Machine::prepare(alloc, &program, &layout(), stack, 16)?;
+            let mut machine = Machine::prepare(alloc, &program, &layout_of_exec(), stack, 16)?;
             Ok(Some(machine.step(&program)))
         }
         Err(_) => Ok(None),
