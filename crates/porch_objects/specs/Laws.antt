@@ -1,5 +1,5 @@
 -- Laws that show what the words of the store and of meanings mean.
-use Rattle.std.specs.Prelude.{ℕ, ℤ, pos, negsuc, int_lt, true, false, ◌≡◌, ◌≢◌, ◌<◌, List, length, slice_get, Some}
+use Rattle.std.specs.Prelude.{ℕ, ℤ, pos, negsuc, int_lt, true, false, ◌≡◌, ◌≢◌, ◌+◌, ◌%◌, ◌<◌, List, length, slice_get, Some}
 use Rattle.porch_objects.specs.Store.{Value, Object, leaf_at, stored}
 use Rattle.porch_objects.specs.Meaning.{truth, byte_of}
 
@@ -14,6 +14,8 @@ pub record IsTruth (x y : ℤ) : Type 0 where
   pub holds : int_lt x y ≡ true → truth x y ≡ pos 1
   pub fails : int_lt x y ≡ false → truth x y ≡ pos 0
 
--- 65, 65 + 256, -1 and -256 are shown as the bytes 65, 65, 255 and 0
-abbrev pub ShowsLowBytes : Type 0
-ShowsLowBytes = (byte_of (pos 65) ≡ 65) × (byte_of (pos 321) ≡ 65) × (byte_of (negsuc 0) ≡ 255) × (byte_of (negsuc 255) ≡ 0)
+-- the byte that is shown of n is n modulo 256, and that of -(n + 1) is the one below 256 that adds up with n + 1 to a multiple of it
+pub record IsLowByte (n : ℕ) : Type 0 where
+  pub positive : byte_of (pos n) ≡ n % 256
+  pub negative : (byte_of (negsuc n) + (n + 1)) % 256 ≡ 0
+  pub small : byte_of (negsuc n) < 256

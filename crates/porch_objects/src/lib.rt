@@ -6,7 +6,7 @@
 
 ghost use Rattle.std.specs.Prelude.{ℕ, ℤ, List};
 ghost use Rattle.porch_objects.specs.Store.{Object, Value};
-ghost use Rattle.porch_objects.specs.Laws.{StoresAt, IsTruth, ShowsLowBytes};
+ghost use Rattle.porch_objects.specs.Laws.{StoresAt, IsTruth, IsLowByte};
 
 /// A stored value is read back, and every other leaf is as it was.
 pub fn stores_one_leaf()
@@ -18,7 +18,7 @@ pub fn comparisons_are_ints()
     ensures { (x y : ℤ) → IsTruth x y }
 {}
 
-/// Numbers are shown by their low bytes.
+/// A number is shown by its low byte: the byte from which it differs by a multiple of 256.
 pub fn low_bytes_are_shown()
-    ensures { ShowsLowBytes }
+    ensures { (n : ℕ) → IsLowByte n }
 {}
