@@ -1,23 +1,20 @@
 -- What is known of places below an address, after a block came or went.
 use Rattle.std.proofs.Common.{◌≡◌, ℕ, zero, suc, ◌+◌, ◌%◌, ◌<◌, ◌≤◌, inl, inr, true, false, ◌&&◌, cond, min, nat_lt, nat_le, List, [], ◌∷◌, length, take, drop, set, get_or, map, replicate, refl, subst, sym, arith}
-use Rattle.std.proofs.lemmas.Bool.{and_parts, ltb-true, leb-true}
+use Rattle.std.proofs.lemmas.Bool.{and_parts, ltb-true, ltb-false, leb-true}
 use Rattle.porch_heap.specs.declared.hint.Hint.{Hint}
 use Rattle.porch_heap.specs.Blocks.{HeapState, IsAlignment, IsApart, IsGap}
-use Rattle.porch_heap.specs.Standing.{IsHint, IsStart, AreHints, lowered}
+use Rattle.porch_heap.specs.Hints.{IsHint, AreHints, lowered}
 use Rattle.porch_heap.proofs.Lists.{each_map}
 
 -- a write at the number that the loop is at
-pub lower_done : (from : ℕ) (xs ys : List Hint) (i low : ℕ) (d : Hint) → i < length xs → i < length ys → take i xs ≡ map (lowered from) (take i ys) → drop i xs ≡ drop i ys → low ≡ min (get_or xs i d).low from → take (suc i) (set xs i (record (get_or xs i d) { low = low })) ≡ map (lowered from) (take (suc i) ys)
-lower_done from [] ys i low d less k done rest e = absurd (omega arith)
-lower_done from (x ∷ xs) [] i low d less k done rest e = absurd (omega arith)
-lower_done from (x ∷ xs) (y ∷ ys) zero low d less k done rest e =
-    let same : x ≡ y = cc in
-    let P : Hint → Type 0 = λ z. (record x { low = low }) ∷ [] ≡ lowered from z ∷ [] in
-    subst P same (rw e refl)
-lower_done from (x ∷ xs) (y ∷ ys) (suc i) low d less k done rest e =
-    let tail : take i xs ≡ map (lowered from) (take i ys) = cc in
-    let first : x ≡ lowered from y = cc in
-    let more = lower_done from xs ys i low d (omega arith) (omega arith) tail rest e in
+pub lower_done : (f : Hint → Hint) (xs ys : List Hint) (i : ℕ) (y d : Hint) → i < length xs → i < length ys → take i xs ≡ map f (take i ys) → drop i xs ≡ drop i ys → y ≡ f (get_or xs i d) → take (suc i) (set xs i y) ≡ map f (take (suc i) ys)
+lower_done f [] ys i y d less k done rest e = absurd (omega arith)
+lower_done f (x ∷ xs) [] i y d less k done rest e = absurd (omega arith)
+lower_done f (x ∷ xs) (z ∷ ys) zero y d less k done rest e = let same : x ≡ z = cc in rw (e, same) refl
+lower_done f (x ∷ xs) (z ∷ ys) (suc i) y d less k done rest e =
+    let tail : take i xs ≡ map f (take i ys) = cc in
+    let first : x ≡ f z = cc in
+    let more = lower_done f xs ys i y d (omega arith) (omega arith) tail rest e in
     rw (first, more) refl
 
 pub lower_rest : (xs ys : List Hint) (i : ℕ) (x : Hint) → i < length xs → i < length ys → drop i xs ≡ drop i ys → drop (suc i) (set xs i x) ≡ drop (suc i) ys
@@ -55,6 +52,12 @@ weaker h bytes small align narrow at a n less k g =
       high = omega arith;
       apart = each_map (IsApart at bytes) (IsApart at small) (λ b e. elim e [ inl f ↦ inl (omega arith) | inr f ↦ inr f ]) h.blocks g.apart;
     }
+
+-- no place below this address, which is in the heap
+pub record IsStart (h : HeapState) (bytes align from : ℕ) : Type 0 where
+  pub low : h.base ≤ from
+  pub high : from ≤ h.base + h.bytes
+  pub none : (at : ℕ) → at < from → IsGap h bytes align at → ⊥
 
 -- where a hint says to begin, there is no place before
 pub start_true : (h : HeapState) (bytes align from : ℕ) (hint : Hint) → IsAlignment align → IsHint h hint → IsStart h bytes align from → IsStart h bytes align (cond (nat_le hint.bytes bytes && nat_le hint.align align && nat_lt from hint.low) hint.low from)
@@ -97,8 +100,14 @@ set_hint h (x ∷ hints) zero hint t k = (k, t.1)
 set_hint h (x ∷ hints) (suc i) hint t k = (t.0, set_hint h hints i hint t.1 k)
 
 -- hints lowered to where bytes became free
-pub lowered_hints : (h h' : HeapState) (from : ℕ) → h'.base + h'.bytes ≡ h.base + h.bytes → ((bytes align at : ℕ) → at < from → IsGap h' bytes align at → IsGap h bytes align at) → (hints : List Hint) → AreHints h hints → AreHints h' (map (lowered from) hints)
-lowered_hints h h' from same into [] t = tt
-lowered_hints h h' from same into (hint ∷ hints) t =
-    let high = t.0.high in
-    (record { align = t.0.align; high = omega arith; none = λ at below g. t.0.none at (omega arith) (into hint.bytes hint.align at (omega arith) g) }, lowered_hints h h' from same into hints t.1)
+pub lowered_hints : (h h' : HeapState) (from count : ℕ) → h'.base + h'.bytes ≡ h.base + h.bytes → ((bytes align at : ℕ) → at < from → IsGap h' bytes align at → IsGap h bytes align at) → ((bytes align at : ℕ) → count ≤ bytes → IsGap h' bytes align at → IsGap h bytes align at) → (hints : List Hint) → AreHints h hints → AreHints h' (map (lowered from count) hints)
+lowered_hints h h' from count same into wide [] t = tt
+lowered_hints h h' from count same into wide (hint ∷ hints) t = (one, lowered_hints h h' from count same into wide hints t.1)
+  where
+    one : IsHint h' (lowered from count hint)
+    one =
+        let high = t.0.high in
+        elim (nat_lt hint.bytes count) as (λ b. nat_lt hint.bytes count ≡ b → IsHint h' (cond b (record hint { low = min hint.low from }) hint)) [
+          | true ↦ λ e. record { align = t.0.align; high = omega arith; none = λ at below g. t.0.none at (omega arith) (into hint.bytes hint.align at (omega arith) g) }
+          | false ↦ λ e. record { align = t.0.align; high = omega arith; none = λ at below g. t.0.none at below (wide hint.bytes hint.align at (ltb-false hint.bytes count e) g) }
+        ] refl

@@ -1,5 +1,6 @@
 -- Each block of a list, the blocks that stand one behind the other, and their parts.
 use Rattle.std.proofs.Common.{ℕ, zero, suc, ◌+◌, ◌<◌, ◌≤◌, List, [], ◌∷◌, ◌++◌, length, take, drop, get_or, arith}
+use Rattle.std.specs.Prelude.{insert, remove}
 use Rattle.porch_heap.specs.declared.block.Block.{Block}
 use Rattle.porch_heap.specs.Blocks.{Each, Stand}
 use Rattle.porch_heap.specs.Searching.{EndsBefore, Head}
@@ -29,12 +30,6 @@ pub head_at : (P : Block → Type 0) (xs : List Block) (i : ℕ) (d : Block) →
 head_at P [] i d less h = absurd (omega arith)
 head_at P (b ∷ xs) zero d less h = h
 head_at P (b ∷ xs) (suc i) d less h = head_at P xs i d (omega arith) h
-
--- one block more at the front
-pub each_take_more : (P : Block → Type 0) (xs : List Block) (i : ℕ) (d : Block) → i < length xs → Each P (take i xs) → P (get_or xs i d) → Each P (take (suc i) xs)
-each_take_more P [] i d less h k = absurd (omega arith)
-each_take_more P (b ∷ xs) zero d less h k = (k, tt)
-each_take_more P (b ∷ xs) (suc i) d less h k = (h.0, each_take_more P xs i d (omega arith) h.1 k)
 
 -- blocks that stand from an address on
 pub stand_low : (from end : ℕ) (xs : List Block) → Stand from end xs → Each (λ b. from ≤ b.at) xs
@@ -78,15 +73,22 @@ each_take P [] (suc i) h = tt
 each_take P (b ∷ xs) zero h = tt
 each_take P (b ∷ xs) (suc i) h = (h.0, each_take P xs i h.1)
 
-pub each_drop : (P : Block → Type 0) (xs : List Block) (i : ℕ) → Each P xs → Each P (drop i xs)
-each_drop P [] zero h = tt
-each_drop P [] (suc i) h = tt
-each_drop P (b ∷ xs) zero h = h
-each_drop P (b ∷ xs) (suc i) h = each_drop P xs i h.1
-
 -- nothing stands past the end
 pub head_past : (P : Block → Type 0) (xs : List Block) (i : ℕ) → length xs ≤ i → Head P (drop i xs)
 head_past P [] zero less = tt
 head_past P [] (suc i) less = tt
 head_past P (b ∷ xs) zero less = absurd (omega arith)
 head_past P (b ∷ xs) (suc i) less = head_past P xs i (omega arith)
+
+-- a block that came or went
+pub each_inserted : (P : Block → Type 0) (xs : List Block) (i : ℕ) (b : Block) → Each P xs → P b → Each P (insert xs i b)
+each_inserted P [] zero b h k = (k, tt)
+each_inserted P [] (suc i) b h k = (k, tt)
+each_inserted P (c ∷ xs) zero b h k = (k, h)
+each_inserted P (c ∷ xs) (suc i) b h k = (h.0, each_inserted P xs i b h.1 k)
+
+pub each_removed : (P : Block → Type 0) (xs : List Block) (i : ℕ) → Each P xs → Each P (remove xs i)
+each_removed P [] zero h = tt
+each_removed P [] (suc i) h = tt
+each_removed P (b ∷ xs) zero h = h.1
+each_removed P (b ∷ xs) (suc i) h = (h.0, each_removed P xs i h.1)

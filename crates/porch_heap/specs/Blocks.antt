@@ -20,11 +20,16 @@ abbrev pub Stand : ℕ → ℕ → List Block → Type 0
 Stand from end [] = from ≤ end
 Stand from end (b ∷ bs) = (from ≤ b.at) × Stand (b.at + b.bytes + 1) end bs
 
+-- at least one value and one byte
+abbrev pub HasSome : Block → Type 0
+HasSome b = (1 ≤ b.count) × (1 ≤ b.bytes)
+
 -- what is always so
 pub record IsHeap (h : HeapState) : Type 0 where
   pub small : h.base + h.bytes < 2 ^ 62
   pub few : length h.blocks ≤ 65536
   pub stand : Stand h.base (h.base + h.bytes) h.blocks
+  pub some : Each HasSome h.blocks
 
 -- an alignment
 abbrev pub IsAlignment : ℕ → Type 0
@@ -93,5 +98,5 @@ abbrev pub begins : ℕ → List Block → Bool
 begins at blocks = list_any (λ b. b.at == at) blocks
 
 -- the block that holds the byte at an address, or ends there
-abbrev pub block_round : ℕ → List Block → Option Block
-block_round at blocks = find (λ b. nat_le b.at at && nat_le at (b.at + b.bytes)) blocks
+abbrev pub block_around : ℕ → List Block → Option Block
+block_around at blocks = find (λ b. nat_le b.at at && nat_le at (b.at + b.bytes)) blocks

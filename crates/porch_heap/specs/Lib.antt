@@ -1,3 +1,6 @@
 pub mod Blocks
+pub mod Chunks
+pub mod TooLarge
+pub mod Seats
 pub mod Searching
-pub mod Standing
+pub mod Hints

@@ -1,7 +1,7 @@
--- How far a search for a place has come.
-use Rattle.std.specs.Prelude.{◌≡◌, ℕ, zero, suc, ◌+◌, ◌-◌, ◌%◌, ◌<◌, ◌≤◌, ◌^◌, length, List, [], ◌∷◌, max, take, drop}
+-- Where among the blocks a place is. No public clause cites it.
+use Rattle.std.specs.Prelude.{ℕ, ◌+◌, ◌-◌, ◌<◌, ◌≤◌, length, List, [], ◌∷◌, max, take, drop}
 use Rattle.porch_heap.specs.declared.block.Block.{Block}
-use Rattle.porch_heap.specs.Blocks.{HeapState, Each, IsGap}
+use Rattle.porch_heap.specs.Blocks.{HeapState, Each}
 
 -- a heap by its parts
 abbrev pub state : ℕ → ℕ → List Block → HeapState
@@ -25,21 +25,7 @@ pub record Divides (blocks : List Block) (index at bytes : ℕ) : Type 0 where
   pub before : Each (EndsBefore at) (take index blocks)
   pub behind : Head (BeginsBehind (at + bytes)) (drop index blocks)
 
--- the blocks before this number end before the address, and there is no place below it
-pub record IsScan (h : HeapState) (bytes align index at : ℕ) : Type 0 where
-  pub multiple : at % align ≡ 0
-  pub low : h.base ≤ at
-  pub high : at < 2 ^ 63
-  pub before : Each (EndsBefore at) (take index h.blocks)
-  pub none : (other : ℕ) → other < at → IsGap h bytes align other → ⊥
-
 -- the longest row of bytes from an address to an end that lie in no block and aren't behind one
 abbrev pub longest : ℕ → ℕ → List Block → ℕ
 longest from end [] = end - from
 longest from end (b ∷ bs) = max (b.at - from) (longest (b.at + b.bytes + 1) end bs)
-
--- where the bytes before the block of this number begin to be free
-abbrev pub gap_low : ℕ → ℕ → List Block → ℕ
-gap_low from zero bs = from
-gap_low from (suc i) [] = from
-gap_low from (suc i) (b ∷ bs) = gap_low (b.at + b.bytes + 1) i bs

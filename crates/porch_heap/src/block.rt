@@ -11,12 +11,13 @@ pub struct Block {
     pub bytes: u64,
 }
 
-/// A request that found no place.
+/// A request that found no place, or came when 65,536 blocks were live.
 #[derive(Clone, Copy, Debug, PartialEq, Eq)]
 pub struct HeapFull {
     /// The bytes asked for.
     pub asked: u64,
-    /// The length of the longest run of free bytes.
+    /// The length of the longest run of free bytes. A block and the byte kept free behind it need one
+    /// byte more than was asked for.
     pub largest: u64,
     /// How many blocks are live.
     pub blocks: u32,

@@ -1,10 +1,14 @@
 ghost use Rattle.std.specs.Prelude.{◌≡◌, ◌+◌, ◌<◌, ◌≤◌, ◌^◌, ◌⊎◌, ◌↔◌, [], length, IfOk, IfErr, IfSome, IfNone, OnOk, OnErr, OnSome, IsOk, IsTrue};
-ghost use Rattle.porch_heap.specs.Blocks.{HeapState, IsHeap, IsAlignment, IsFirstGap, HasNoGap, IsFullFor, heap_with, heap_without, begins, block_round};
-ghost use Rattle.porch_heap.specs.Searching.{Divides};
+ghost use Rattle.porch_heap.specs.Blocks.{HeapState, IsHeap, IsAlignment, IsFirstGap, HasNoGap, IsFullFor, heap_with, heap_without, begins, block_around};
+ghost use Rattle.porch_heap.specs.Searching.{Divides, state};
+ghost use Rattle.porch_heap.specs.Chunks.{blocks_of};
+ghost use Rattle.porch_heap.specs.Seats.{IsBefore, number_of};
+ghost use Rattle.porch_heap.specs.Hints.{Keeps};
 
 use crate::block::{Block, HeapFull, NotABlock};
+use crate::blocks::Blocks;
+use crate::chunks::Place;
 use crate::hint::{Hint, class_of, lower, start_of};
-use crate::place::{Place, first_place, free_from, holding, longest_run, number_of};
 use crate::row::Row;
 use std::alloc::{AllocError, Global};
 use std::marker::Model;
@@ -18,7 +22,6 @@ const MOST_BLOCKS: usize = 65536;
 /// lie in the heap, each with at least one byte between it and the next and one behind the last.
 #[derive(Drop)]
 pub struct Heap {
-    base: u64,
     bytes: u64,
     live: Row,
     hints: [Hint; 64],
@@ -29,12 +32,14 @@ impl Model for Heap {
 
     ghost Value = { HeapState };
 
-    ghost view = { λ h. record { base = h.base; bytes = h.bytes; blocks = h.live } };
+    ghost use Rattle.porch_heap.specs.Chunks.{blocks_of};
+
+    ghost view = { λ h. record { base = h.live.base; bytes = h.bytes; blocks = blocks_of h.live.chunks } };
 
     ghost use Rattle.porch_heap.specs.Searching.{state};
-    ghost use Rattle.porch_heap.specs.Standing.{Keeps};
+    ghost use Rattle.porch_heap.specs.Hints.{Keeps};
 
-    ghost invariant = { λ h. Keeps (state h.base h.bytes h.live) h.hints };
+    ghost invariant = { λ h. Keeps (state h.live.base h.bytes (blocks_of h.live.chunks)) h.hints };
 }
 
 impl Heap {
@@ -45,25 +50,20 @@ impl Heap {
         ensures empty { IfOk result (λ h. h ≡ record { base = base; bytes = bytes; blocks = [] }) }
         ensures valid { IfOk result IsHeap }
     {
-        let live = Row::new(alloc)?;
+        let live = Row::new(alloc, base)?;
         let hints = [Hint {
             bytes: 1,
             align: 1,
             low: 0,
         }; 64];
-        Ok(Heap {
-            base,
-            bytes,
-            live,
-            hints,
-        })
+        Ok(Heap { bytes, live, hints })
     }
 
     /// The address of the heap's first byte.
     pub fn base(&self) -> u64
         ensures { result ≡ self.now.base }
     {
-        self.base
+        self.live.base()
     }
 
     /// How many bytes the heap has.
@@ -74,22 +74,38 @@ impl Heap {
     }
 
     /// The live blocks by rising address.
-    pub fn blocks(&self) -> &[Block]
-        ensures blocks { result.now ≡ self.now.blocks }
+    pub fn blocks(&self) -> Blocks<'_>
+        ensures blocks { result ≡ self.now.blocks }
         ensures valid { IsHeap self.now }
     {
-        self.live.as_slice()
+        self.live.blocks()
+    }
+
+    /// How many blocks are live, at most 65,536.
+    pub fn len(&self) -> usize
+        ensures len { result ≡ length self.now.blocks }
+        ensures few { result ≤ 65536 }
+    {
+        self.live.len()
+    }
+
+    /// Whether no block is live.
+    pub fn is_empty(&self) -> bool
+        ensures { IsTrue result ↔ (self.now.blocks ≡ []) }
+    {
+        self.live.len() == 0
     }
 
     /// The block that holds the byte at an address, or ends there: whose last byte is the one before.
     pub fn block_at(&self, at: u64) -> Option<Block>
-        ensures { result ≡ block_round at self.now.blocks }
+        ensures { result ≡ block_around at self.now.blocks }
     {
-        holding(self.live.as_slice(), self.base, self.base + self.bytes, at)
+        self.live.held(at)
     }
 
     /// Makes a block for `count` values of the type of number `ty`, of so many bytes in all, at the
-    /// lowest place that has room for it, and answers its address. It takes no memory.
+    /// lowest place that has room for it, and answers its address; or says that there is none, or that
+    /// 65,536 blocks are live. It takes no memory.
     pub fn take(&mut self, ty: u32, count: u32, bytes: u64, align: u64) -> Result<u64, HeapFull>
         requires count { 1 ≤ count }
         requires some { 1 ≤ bytes }
@@ -104,11 +120,11 @@ impl Heap {
         ensures same { OnErr result (self.new ≡ self.old) }
         ensures valid { IsHeap self.new }
     {
-        match self.place(bytes, align) {
+        match place(&mut self.live, &mut self.hints, self.bytes, bytes, align) {
             Some(place) => {
                 let at = place.at;
-                self.put(
-                    place.index,
+                self.live.insert(
+                    place.before,
                     Block {
                         at,
                         ty,
@@ -129,67 +145,14 @@ impl Heap {
         ensures same { OnErr result (self.new ≡ self.old) }
         ensures valid { IsHeap self.new }
     {
-        match number_of(self.live.as_slice(), self.base, self.base + self.bytes, at) {
-            Some(index) => {
-                let from = free_from(
-                    self.live.as_slice(),
-                    self.base,
-                    self.base + self.bytes,
-                    index,
-                );
-                self.live.remove(index);
-                lower(&mut self.hints, from);
+        match self.live.seat_of(at) {
+            Some(seat) => {
+                let gap = self.live.gap(seat, self.live.base() + self.bytes);
+                self.live.remove(seat);
+                lower(&mut self.hints, gap);
                 Ok(())
             }
             None => Err(NotABlock),
-        }
-    }
-
-    // The first place for a request, if another block may live.
-    fn place(&mut self, bytes: u64, align: u64) -> Option<Place>
-        requires bytes { bytes < 2 ^ 62 }
-        requires align { IsAlignment align }
-        ensures first { IfSome result (λ p. IsFirstGap self.old bytes align p.at) }
-        ensures index { IfSome result (λ p. Divides self.old.blocks p.index p.at bytes) }
-        ensures room { OnSome result (length self.old.blocks < 65536) }
-        ensures full { IfNone result (HasNoGap self.old bytes align ⊎ (length self.old.blocks ≡ 65536)) }
-        ensures same { self.new ≡ self.old }
-        ensures valid { IsHeap self.new }
-    {
-        if self.live.len() >= MOST_BLOCKS {
-            return None;
-        }
-        let class = class_of(bytes, align);
-        let from = start_of(
-            self.hints[class.number],
-            self.base,
-            class.bytes,
-            class.align,
-        );
-        match first_place(
-            self.live.as_slice(),
-            self.base,
-            self.bytes,
-            from,
-            class.bytes,
-            class.align,
-        ) {
-            Some(first) => {
-                self.hints[class.number] = Hint {
-                    bytes: class.bytes,
-                    align: class.align,
-                    low: first.at,
-                };
-                first_place(
-                    self.live.as_slice(),
-                    self.base,
-                    self.bytes,
-                    first.at,
-                    bytes,
-                    align,
-                )
-            }
-            None => None,
         }
     }
 
@@ -199,20 +162,42 @@ impl Heap {
     {
         HeapFull {
             asked: bytes,
-            largest: longest_run(self.live.as_slice(), self.base, self.bytes),
+            largest: self.live.longest_run(self.bytes),
             blocks: self.live.len() as u32,
         }
     }
+}
 
-    // Puts a block at a place for it.
-    fn put(&mut self, index: usize, block: Block)
-        requires low { self.old.base ≤ block.at }
-        requires high { block.at + block.bytes < self.old.base + self.old.bytes }
-        requires index { Divides self.old.blocks index block.at block.bytes }
-        requires room { length self.old.blocks < 65536 }
-        ensures added { self.new ≡ heap_with block self.old }
-        ensures valid { IsHeap self.new }
-    {
-        self.live.insert(index, block);
+// The first place for a request in a heap of so many bytes, if another block may live.
+fn place(live: &mut Row, hints: &mut [Hint; 64], size: u64, bytes: u64, align: u64) -> Option<Place>
+    requires keeps { Keeps (state live.old.base size (blocks_of live.old.chunks)) hints.old }
+    requires bytes { bytes < 2 ^ 62 }
+    requires align { IsAlignment align }
+    ensures first { IfSome result (λ p. IsFirstGap (state live.old.base size (blocks_of live.old.chunks)) bytes align p.at) }
+    ensures index { IfSome result (λ p. Divides (blocks_of live.old.chunks) (number_of live.old.chunks p.before) p.at bytes) }
+    ensures seat { IfSome result (λ p. IsBefore live.old.chunks p.before) }
+    ensures room { OnSome result (length (blocks_of live.old.chunks) < 65536) }
+    ensures full { IfNone result (HasNoGap (state live.old.base size (blocks_of live.old.chunks)) bytes align ⊎ (length (blocks_of live.old.chunks) ≡ 65536)) }
+    ensures same { live.new ≡ live.old }
+    ensures keeps { Keeps (state live.old.base size (blocks_of live.old.chunks)) hints.new }
+{
+    if live.len() >= MOST_BLOCKS {
+        return None;
+    }
+    let class = class_of(bytes, align);
+    let from = start_of(hints[class.number], live.base(), class.bytes, class.align);
+    match live.first_place(size, from, class.bytes, class.align) {
+        Some(first) => {
+            hints[class.number] = Hint {
+                bytes: class.bytes,
+                align: class.align,
+                low: first.at,
+            };
+            if class.bytes == bytes && class.align == align {
+                return Some(first);
+            }
+            live.first_place(size, first.at, bytes, align)
+        }
+        None => None,
     }
 }

@@ -1,6 +1,6 @@
-ghost use Rattle.std.specs.Prelude.{◌≡◌, ◌<◌, ◌≤◌, ◌^◌, ℕ, map};
+ghost use Rattle.std.specs.Prelude.{◌≡◌, ◌<◌, ◌≤◌, ◌^◌, map};
 ghost use Rattle.porch_heap.specs.Blocks.{IsAlignment};
-ghost use Rattle.porch_heap.specs.Standing.{start_at, lowered};
+ghost use Rattle.porch_heap.specs.Hints.{start_at, lowered};
 
 /// What is known of requests of at least so many bytes and at least this alignment: there is no place
 /// for one below an address.
@@ -9,6 +9,13 @@ pub(crate) struct Hint {
     pub bytes: u64,
     pub align: u64,
     pub low: u64,
+}
+
+/// Bytes in a row that are free: where they begin, and how many they are.
+#[derive(Clone, Copy, Debug, PartialEq, Eq)]
+pub(crate) struct Gap {
+    pub from: u64,
+    pub bytes: u64,
 }
 
 /// The requests that share a hint: its number, and the least of them.
@@ -73,11 +80,26 @@ pub(crate) fn start_of(hint: Hint, base: u64, bytes: u64, align: u64) -> u64
     }
 }
 
-/// Lowers the hints after a block ended, behind which bytes are free from an address on.
-pub(crate) fn lower(hints: &mut [Hint], from: u64)
-    ensures { hints.new ≡ map (lowered from) hints.old }
+/// Lowers the hints after a block ended, for which there may be a place among the bytes that are free
+/// then.
+pub(crate) fn lower(hints: &mut [Hint], gap: Gap)
+    ensures { hints.new ≡ map (lowered gap.from gap.bytes) hints.old }
 {
     for hint in hints.iter_mut() {
-        hint.low = hint.low.min(from);
+        *hint = lowered_to(*hint, gap);
+    }
+}
+
+// A request of as many bytes as the gap has doesn't fit into it, since it needs one more.
+fn lowered_to(hint: Hint, gap: Gap) -> Hint
+    ensures { result ≡ lowered gap.from gap.bytes hint }
+{
+    if hint.bytes < gap.bytes {
+        Hint {
+            low: hint.low.min(gap.from),
+            ..hint
+        }
+    } else {
+        hint
     }
 }

@@ -7,12 +7,18 @@
 #![tactic(auto)]
 
 mod block;
+mod blocks;
+mod chunk;
+mod chunks;
+mod edits;
 mod heap;
 mod hint;
 mod place;
 mod row;
 #[cfg(test)]
 mod tests;
+mod too_large;
 
 pub use block::{Block, HeapFull, NotABlock};
+pub use blocks::Blocks;
 pub use heap::Heap;

@@ -1,20 +1,20 @@
-ghost use Rattle.std.specs.Prelude.{IsTrue, IsFalse, ◌≡◌, ◌≢◌, ◌+◌, ◌%◌, ◌-◌, ◌⊎◌, ◌<◌, ◌≤◌, ◌^◌, ℕ, length, take, drop, IfSome, IfNone};
-ghost use Rattle.porch_heap.specs.Blocks.{Each, Stand, IsHeap, IsAlignment, IsGap, IsFirstGap, HasNoGap, block_round};
-ghost use Rattle.porch_heap.specs.Searching.{EndsBefore, Head, Divides, IsScan, longest, gap_low, state};
+ghost use Rattle.std.specs.Prelude.{IsTrue, IsFalse, ◌≡◌, ◌≢◌, ◌+◌, ◌%◌, ◌-◌, ◌⊎◌, ◌<◌, ◌≤◌, ◌^◌, ℕ, length, take, drop, IfOk, IfErr, IfSome, IfNone};
+ghost use Rattle.porch_heap.specs.Blocks.{Each, Stand, IsAlignment, block_around};
+ghost use Rattle.porch_heap.specs.Searching.{EndsBefore, Head};
+ghost use Rattle.porch_heap.specs.Chunks.{IsFound, NoRoom, after, widest};
 
-use crate::block::{Block, HeapFull};
+use crate::block::Block;
 
-/// Where a new block goes: before which block of the list, and at which address.
+/// Where a new block goes among some: before which of them, and at which address.
 #[derive(Clone, Copy, Debug, PartialEq, Eq)]
-pub(crate) struct Place {
+pub(crate) struct Found {
     pub index: usize,
     pub at: u64,
 }
 
 /// The number of the first block whose end is at or behind an address.
-pub(crate) fn index_of(live: &[Block], base: u64, end: u64, at: u64) -> usize
-    requires stand { Stand base end live.now }
-    requires small { end < 2 ^ 62 }
+pub(crate) fn index_of(live: &[Block], from: u64, at: u64) -> usize
+    requires stand { Stand from (2 ^ 62) live.now }
     ensures within { result ≤ length live.now }
     ensures before { Each (EndsBefore at) (take result live.now) }
     ensures here { Head (λ b. at ≤ b.at + b.bytes) (drop result live.now) }
@@ -23,7 +23,7 @@ pub(crate) fn index_of(live: &[Block], base: u64, end: u64, at: u64) -> usize
     let mut high = live.len();
     while low < high {
         let middle = low + (high - low) / 2;
-        if ends_before(live, middle, base, end, at) {
+        if ends_before(live, middle, from, at) {
             low = middle + 1;
         } else {
             high = middle;
@@ -33,9 +33,8 @@ pub(crate) fn index_of(live: &[Block], base: u64, end: u64, at: u64) -> usize
 }
 
 // Whether the block of this number, and so each before it, ends before an address.
-fn ends_before(live: &[Block], index: usize, base: u64, end: u64, at: u64) -> bool
-    requires stand { Stand base end live.now }
-    requires small { end < 2 ^ 62 }
+fn ends_before(live: &[Block], index: usize, from: u64, at: u64) -> bool
+    requires stand { Stand from (2 ^ 62) live.now }
     requires within { index < length live.now }
     ensures yes { IsTrue result → Each (EndsBefore at) (take (index + 1) live.now) }
     ensures not { IsFalse result → Head (λ b. at ≤ b.at + b.bytes) (drop index live.now) }
@@ -44,8 +43,8 @@ fn ends_before(live: &[Block], index: usize, base: u64, end: u64, at: u64) -> bo
     block.at + block.bytes < at
 }
 
-// The lowest multiple of an alignment at or behind an address.
-fn rounded_up(at: u64, align: u64) -> u64
+/// The lowest multiple of an alignment at or behind an address.
+pub(crate) fn rounded_up(at: u64, align: u64) -> u64
     requires align { IsAlignment align }
     requires small { at < 2 ^ 63 }
     ensures multiple { result % align ≡ 0 }
@@ -61,82 +60,97 @@ fn rounded_up(at: u64, align: u64) -> u64
     }
 }
 
-/// The first place for a request, where there is none below an address at or behind the base.
-pub(crate) fn first_place(
+/// The first place for a request before one of some blocks, where there is none before those in front
+/// of the one of a number; or else the least bytes that find none before any of them.
+pub(crate) fn first_in(
     live: &[Block],
-    base: u64,
-    size: u64,
     from: u64,
+    start: usize,
     bytes: u64,
     align: u64,
-) -> Option<Place>
-    requires heap { IsHeap (state base size live.now) }
+) -> Result<Found, u64>
+    requires stand { Stand from (2 ^ 62) live.now }
+    requires start { start ≤ length live.now }
+    requires none { NoRoom align bytes from (take start live.now) }
     requires bytes { bytes < 2 ^ 62 }
     requires align { IsAlignment align }
-    requires low { base ≤ from }
-    requires high { from < 2 ^ 63 - 8 }
-    requires none { (at : ℕ) → at < from → IsGap (state base size live.now) bytes align at → ⊥ }
-    ensures first { IfSome result (λ p. IsFirstGap (state base size live.now) bytes align p.at) }
-    ensures index { IfSome result (λ p. Divides live.now p.index p.at bytes) }
-    ensures full { IfNone result (HasNoGap (state base size live.now) bytes align) }
+    ensures found { IfOk result (λ f. IsFound live.now from bytes align f.index f.at) }
+    ensures none { IfErr result (λ least. NoRoom align least from live.now) }
+    ensures below { IfErr result (λ least. least ≤ bytes) }
 {
-    let mut at = rounded_up(from, align);
-    let start = index_of(live, base, base + size, at);
+    let mut low = free_before(live, from, start);
+    let mut least = known(start, bytes);
     for index in start..live.len() {
         let block = live[index];
+        let at = rounded_up(low, align);
         if at + bytes < block.at {
-            return Some(Place { index, at });
+            return Ok(Found { index, at });
         }
-        at = behind(block, at, align);
+        least = least.max(block.at.saturating_sub(at));
+        low = block.at + block.bytes + 1;
     }
-    if at + bytes < base + size {
-        Some(Place {
-            index: live.len(),
-            at,
-        })
+    Err(least)
+}
+
+// The least bytes that are known to find no place before the blocks in front of the one of a number,
+// if so many find none.
+fn known(start: usize, bytes: u64) -> u64
+    ensures some { 0 < start → result ≡ bytes }
+    ensures below { result ≤ bytes }
+{
+    if start == 0 { 0 } else { bytes }
+}
+
+/// Where the bytes before the block of this number, or behind the last one, begin to be free.
+pub(crate) fn free_before(live: &[Block], from: u64, index: usize) -> u64
+    requires stand { Stand from (2 ^ 62) live.now }
+    requires within { index ≤ length live.now }
+    ensures free { result ≡ after from (take index live.now) }
+    ensures small { result ≤ 2 ^ 62 }
+{
+    if index == 0 {
+        from
     } else {
-        None
+        let before = live[index - 1];
+        before.at + before.bytes + 1
     }
 }
 
-// The lowest multiple of an alignment behind a block and its byte, and not below an address.
-fn behind(block: Block, at: u64, align: u64) -> u64
-    requires align { IsAlignment align }
-    requires small { block.at + block.bytes < 2 ^ 62 }
-    requires multiple { at % align ≡ 0 }
-    ensures multiple { result % align ≡ 0 }
-    ensures low { at ≤ result }
-    ensures behind { block.at + block.bytes < result }
-    ensures near { (result ≡ at) ⊎ (result < 2 ^ 62 + 9) }
-    ensures least { (other : ℕ) → at ≤ other → block.at + block.bytes < other → other % align ≡ 0 → result ≤ other }
+/// How many bytes are free before the block of this number, and none behind the last one.
+pub(crate) fn width(live: &[Block], from: u64, index: usize) -> u64
+    requires stand { Stand from (2 ^ 62) live.now }
+    requires within { index ≤ length live.now }
+    ensures { Head (λ b. b.at ≤ after from (take index live.now) + result) (drop index live.now) }
 {
-    let next = rounded_up(block.at + block.bytes + 1, align);
-    if at < next { next } else { at }
+    if index == live.len() {
+        0
+    } else {
+        live[index].at - free_before(live, from, index)
+    }
 }
 
-/// The longest run of free bytes.
-pub(crate) fn longest_run(live: &[Block], base: u64, size: u64) -> u64
-    requires { IsHeap (state base size live.now) }
-    ensures { result ≡ longest base (base + size) live.now }
+/// The most bytes that are free before a block.
+pub(crate) fn widest_gap(live: &[Block], from: u64) -> u64
+    requires { Stand from (2 ^ 62) live.now }
+    ensures { result ≡ widest from live.now }
 {
-    let mut from = base;
+    let mut low = from;
     let mut most = 0;
     for block in live {
-        most = most.max(block.at - from);
-        from = block.at + block.bytes + 1;
+        most = most.max(block.at - low);
+        low = block.at + block.bytes + 1;
     }
-    most.max(base + size - from)
+    most
 }
 
 /// The number of the block that begins at an address.
-pub(crate) fn number_of(live: &[Block], base: u64, end: u64, at: u64) -> Option<usize>
-    requires stand { Stand base end live.now }
-    requires small { end < 2 ^ 62 }
+pub(crate) fn number_of(live: &[Block], from: u64, at: u64) -> Option<usize>
+    requires stand { Stand from (2 ^ 62) live.now }
     ensures found { IfSome result (λ i. i < length live.now) }
     ensures begins { IfSome result (λ i. Head (λ b. b.at ≡ at) (drop i live.now)) }
     ensures none { IfNone result (Each (λ b. b.at ≢ at) live.now) }
 {
-    let index = index_of(live, base, end, at);
+    let index = index_of(live, from, at);
     if index >= live.len() {
         return None;
     }
@@ -147,12 +161,11 @@ pub(crate) fn number_of(live: &[Block], base: u64, end: u64, at: u64) -> Option<
 }
 
 /// The block that holds the byte at an address, or ends there.
-pub(crate) fn holding(live: &[Block], base: u64, end: u64, at: u64) -> Option<Block>
-    requires stand { Stand base end live.now }
-    requires small { end < 2 ^ 62 }
-    ensures { result ≡ block_round at live.now }
+pub(crate) fn holding(live: &[Block], from: u64, at: u64) -> Option<Block>
+    requires stand { Stand from (2 ^ 62) live.now }
+    ensures { result ≡ block_around at live.now }
 {
-    let index = index_of(live, base, end, at);
+    let index = index_of(live, from, at);
     if index >= live.len() {
         return None;
     }
@@ -161,19 +174,4 @@ pub(crate) fn holding(live: &[Block], base: u64, end: u64, at: u64) -> Option<Bl
         return None;
     }
     Some(block)
-}
-
-/// Where the free bytes before the block of this number begin.
-pub(crate) fn free_from(live: &[Block], base: u64, end: u64, index: usize) -> u64
-    requires stand { Stand base end live.now }
-    requires small { end < 2 ^ 62 }
-    requires within { index < length live.now }
-    ensures { result ≡ gap_low base index live.now }
-{
-    if index == 0 {
-        base
-    } else {
-        let before = live[index - 1];
-        before.at + before.bytes + 1
-    }
 }

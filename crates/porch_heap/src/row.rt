@@ -1,165 +1,229 @@
-ghost use Rattle.std.specs.Prelude.{◌≡◌, ◌+◌, ◌-◌, ◌<◌, ◌≤◌, [], length, drop, insert, remove, vec_len, vec_capacity, IfOk, ◌*◌};
+ghost use Rattle.std.specs.Prelude.{◌≡◌, ◌≢◌, ◌+◌, ◌-◌, ◌%◌, ◌<◌, ◌≤◌, ◌^◌, ℕ, [], length, insert, remove, take, drop, vec_len, vec_capacity, None, IfOk, IfSome, IfNone};
+ghost use Rattle.porch_heap.specs.Blocks.{Each, IsHeap, IsAlignment, IsGap, IsFirstGap, HasNoGap, block_around};
+ghost use Rattle.porch_heap.specs.Searching.{Divides, Head, longest, state};
+ghost use Rattle.porch_heap.specs.Chunks.{HasNoRoom, IsBehind, after, blocks_of, rank, stop};
+ghost use Rattle.porch_heap.specs.TooLarge.{IsRow};
+ghost use Rattle.porch_heap.specs.Seats.{IsSeat, IsBefore, number_of};
 
 use crate::block::Block;
+use crate::blocks::Blocks;
+use crate::chunk::Chunk;
+use crate::chunks::{
+    Place, Seat, behind_all, first_seat, held, next_at, seat_behind, seat_of, widest_of,
+};
+use crate::edits::{join, put_before, put_last, take_out};
+use crate::hint::Gap;
+use crate::place::{free_before, rounded_up};
 use std::alloc::{AllocError, Global};
 use std::marker::Model;
 
-// How many blocks there is memory for: twice as many as may live, so that one more finds room on
-// either side.
-const PLACES: usize = 131_072;
+// How many chunks there is memory for. If all of them had blocks, some two that follow one another
+// would have at most as many as one holds, since 65,536 are fewer than 129 for each two.
+const CHUNKS: usize = 1024;
 
-/// A row of blocks with room before its first and behind its last one.
+/// The blocks of a heap by rising address, in chunks.
 ///
-/// Contracts see it as the list of its blocks. A block that comes or goes moves only those on the
-/// shorter side. Where that side has no room, all move once to where both have room for a while.
+/// A block that comes or goes moves only others of its chunk. Where a chunk is full, half of it goes
+/// into a spare one, and where no spare one is left, two that follow one another become one.
 #[derive(Drop)]
 pub(crate) struct Row {
-    // The blocks stand from the number `first` on. What stands before is unused.
-    places: Vec<Block>,
-    first: usize,
+    base: u64,
+    count: usize,
+    chunks: Vec<Chunk>,
+    spares: Vec<Chunk>,
 }
 
 impl Model for Row {
-    ghost use Rattle.std.specs.Prelude.{List, drop};
-    ghost use Rattle.porch_heap.specs.declared.block.Block.{Block};
+    ghost use Rattle.porch_heap.specs.Chunks.{RowState};
 
-    ghost Value = { List Block };
+    ghost Value = { RowState };
 
-    ghost view = { λ r. drop r.first r.places.items };
+    ghost view = { λ r. record { base = r.base; chunks = r.chunks.items } };
 
-    ghost use Rattle.std.specs.Prelude.{vec_len, vec_capacity, ◌≤◌};
+    ghost use Rattle.std.specs.Prelude.{vec_len, vec_capacity};
+    ghost use Rattle.porch_heap.specs.TooLarge.{IsRow};
 
-    ghost invariant = { λ r. (r.first ≤ vec_len r.places) × (131072 ≤ vec_capacity r.places) };
+    ghost invariant = { λ r. IsRow r.base r.count r.chunks.items (vec_len r.chunks) (vec_len r.spares) (vec_capacity r.chunks) (vec_capacity r.spares) };
 }
 
 impl Row {
-    /// A row of no blocks, with memory for all that it may hold.
-    pub(crate) fn new(alloc: Global) -> Result<Row, AllocError>
-        ensures empty { IfOk result (λ r. r ≡ []) }
+    /// A row of no blocks from a base address on, with memory for all that it may hold.
+    pub(crate) fn new(alloc: Global, base: u64) -> Result<Row, AllocError>
+        requires { base < 2 ^ 62 }
+        ensures empty { IfOk result (λ r. r ≡ record { base = base; chunks = [] }) }
     {
-        let places = Vec::with_capacity(alloc, PLACES)?;
-        Ok(Row { places, first: 0 })
+        let mut spares = Vec::with_capacity(alloc, CHUNKS)?;
+        for _ in 0..CHUNKS {
+            spares.push(Chunk::new(alloc)?)?;
+        }
+        Ok(Row {
+            base,
+            count: 0,
+            chunks: Vec::with_capacity(alloc, CHUNKS)?,
+            spares,
+        })
+    }
+
+    /// The address behind which the blocks stand.
+    pub(crate) fn base(&self) -> u64
+        ensures { result ≡ self.now.base }
+    {
+        self.base
     }
 
     /// How many blocks it has.
     pub(crate) fn len(&self) -> usize
-        ensures { result ≡ length self.now }
+        ensures { result ≡ length (blocks_of self.now.chunks) }
     {
-        self.places.len() - self.first
+        self.count
     }
 
     /// The blocks in their order.
-    pub(crate) fn as_slice(&self) -> &[Block]
-        ensures { result.now ≡ self.now }
+    pub(crate) fn blocks(&self) -> Blocks<'_>
+        ensures { result ≡ blocks_of self.now.chunks }
     {
-        &self.places.as_slice()[self.first..]
+        Blocks::new(self.chunks.as_slice())
     }
 
-    /// Puts a block before the one of a number, or at the end. It takes no memory.
-    pub(crate) fn insert(&mut self, index: usize, block: Block)
-        requires within { index ≤ length self.old }
-        requires room { length self.old < 65536 }
-        ensures { self.new ≡ insert self.old index block }
+    /// The block that holds the byte at an address, or ends there.
+    pub(crate) fn held(&self, at: u64) -> Option<Block>
+        ensures { result ≡ block_around at (blocks_of self.now.chunks) }
     {
-        if index < self.places.len() - self.first - index {
-            let start = room_before(&mut self.places, self.first) - 1;
-            self.first = start;
-            put_low(&mut self.places.as_mut_slice()[start..], index, block);
-        } else {
-            self.first = room_behind(&mut self.places, self.first);
-            let _ = self.places.insert(self.first + index, block);
+        held(self.chunks.as_slice(), self.base, at)
+    }
+
+    /// The seat of the block that begins at an address.
+    pub(crate) fn seat_of(&self, at: u64) -> Option<Seat>
+        ensures found { IfSome result (IsSeat self.now.chunks) }
+        ensures begins { IfSome result (λ s. Head (λ b. b.at ≡ at) (drop (rank self.now.chunks s.chunk s.index) (blocks_of self.now.chunks))) }
+        ensures none { IfNone result (Each (λ b. b.at ≢ at) (blocks_of self.now.chunks)) }
+    {
+        seat_of(self.chunks.as_slice(), self.base, at)
+    }
+
+    /// The first place for a request in so many bytes from the base on, where there is none below an
+    /// address.
+    pub(crate) fn first_place(
+        &mut self,
+        size: u64,
+        from: u64,
+        bytes: u64,
+        align: u64,
+    ) -> Option<Place>
+        requires heap { IsHeap (state self.old.base size (blocks_of self.old.chunks)) }
+        requires bytes { bytes < 2 ^ 62 }
+        requires align { IsAlignment align }
+        requires none { (at : ℕ) → at < from → IsGap (state self.old.base size (blocks_of self.old.chunks)) bytes align at → ⊥ }
+        ensures first { IfSome result (λ p. IsFirstGap (state self.old.base size (blocks_of self.old.chunks)) bytes align p.at) }
+        ensures index { IfSome result (λ p. Divides (blocks_of self.old.chunks) (number_of self.old.chunks p.before) p.at bytes) }
+        ensures seat { IfSome result (λ p. IsBefore self.old.chunks p.before) }
+        ensures full { IfNone result (HasNoGap (state self.old.base size (blocks_of self.old.chunks)) bytes align) }
+        ensures same { self.new ≡ self.old }
+    {
+        let start = seat_behind(self.chunks.as_slice(), self.base, from);
+        let found = first_seat(self.chunks.as_mut_slice(), self.base, start, bytes, align);
+        if let Some((seat, at)) = found {
+            return Some(Place {
+                before: Some(seat),
+                at,
+            });
+        }
+        behind(
+            behind_all(self.chunks.as_slice(), self.base),
+            self.base + size,
+            bytes,
+            align,
+        )
+    }
+
+    /// The longest run of free bytes among so many from the base on.
+    pub(crate) fn longest_run(&self, size: u64) -> u64
+        requires { IsHeap (state self.now.base size (blocks_of self.now.chunks)) }
+        ensures { result ≡ longest self.now.base (self.now.base + size) (blocks_of self.now.chunks) }
+    {
+        let behind = behind_all(self.chunks.as_slice(), self.base);
+        widest_of(self.chunks.as_slice(), self.base).max(self.base + size - behind)
+    }
+
+    /// The bytes, up to an end, that are free in a row once the block of a seat is gone.
+    pub(crate) fn gap(&self, seat: Seat, end: u64) -> Gap
+        requires { IsSeat self.now.chunks seat }
+        ensures from { result.from ≡ after self.now.base (take (rank self.now.chunks seat.chunk seat.index) (blocks_of self.now.chunks)) }
+        ensures bytes { stop end (drop (rank self.now.chunks seat.chunk seat.index + 1) (blocks_of self.now.chunks)) ≤ result.from + result.bytes }
+    {
+        let chunk = &self.chunks[seat.chunk];
+        let from = free_before(chunk.blocks(), chunk.from(), seat.index);
+        let to = next_at(self.chunks.as_slice(), self.base, seat, end);
+        Gap {
+            from,
+            bytes: to.saturating_sub(from),
         }
     }
 
-    /// Takes the block of a number out.
-    pub(crate) fn remove(&mut self, index: usize)
-        requires within { index < length self.old }
-        ensures { self.new ≡ remove self.old index }
+    /// Puts a block before the one of a seat, or behind all. It takes no memory.
+    pub(crate) fn insert(&mut self, before: Option<Seat>, block: Block)
+        requires seat { IsBefore self.old.chunks before }
+        requires low { self.old.base ≤ block.at }
+        requires place { Divides (blocks_of self.old.chunks) (number_of self.old.chunks before) block.at block.bytes }
+        requires high { block.at + block.bytes < 2 ^ 62 }
+        requires room { length (blocks_of self.old.chunks) < 65536 }
+        ensures base { self.new.base ≡ self.old.base }
+        ensures blocks { blocks_of self.new.chunks ≡ insert (blocks_of self.old.chunks) (number_of self.old.chunks before) block }
     {
-        if index < self.places.len() - self.first - index {
-            let start = self.first;
-            close_low(&mut self.places.as_mut_slice()[start..], index);
-            self.first = start + 1;
-        } else {
-            let _ = self.places.remove(self.first + index);
-        }
+        put(&mut self.chunks, &mut self.spares, self.base, before, block);
+        self.count += 1;
+    }
+
+    /// Takes the block of a seat out.
+    pub(crate) fn remove(&mut self, seat: Seat)
+        requires seat { IsSeat self.old.chunks seat }
+        ensures base { self.new.base ≡ self.old.base }
+        ensures blocks { blocks_of self.new.chunks ≡ remove (blocks_of self.old.chunks) (rank self.old.chunks seat.chunk seat.index) }
+    {
+        take_out(&mut self.chunks, &mut self.spares, self.base, seat);
+        self.count -= 1;
     }
 }
 
-// Puts a block behind so many, each of which moves down into the unused place before it.
-fn put_low(tail: &mut [Block], index: usize, block: Block)
-    requires within { index < length tail.old }
-    ensures { tail.new ≡ insert (drop 1 tail.old) index block }
+// The place behind all blocks, if a request fits there.
+fn behind(from: u64, end: u64, bytes: u64, align: u64) -> Option<Place>
+    requires align { IsAlignment align }
+    requires bytes { bytes < 2 ^ 62 }
+    requires small { from ≤ 2 ^ 62 }
+    ensures place { IfSome result (λ p. IsBehind from end bytes align p.at) }
+    ensures last { IfSome result (λ p. p.before ≡ None) }
+    ensures full { IfNone result (HasNoRoom align bytes from end) }
 {
-    tail[0] = block;
-    tail[..index + 1].rotate_left(1);
-}
-
-// Takes the block of a number out: those before it move up, and the first place becomes unused.
-fn close_low(tail: &mut [Block], index: usize)
-    requires within { index < length tail.old }
-    ensures { drop 1 tail.new ≡ remove tail.old index }
-{
-    tail[..index + 1].rotate_right(1);
-}
-
-// The number of the first block, once there is room before it.
-fn room_before(places: &mut Vec<Block>, first: usize) -> usize
-    requires some { first < vec_len places.old }
-    requires few { vec_len places.old < first + 65536 }
-    requires memory { 131072 ≤ vec_capacity places.old }
-    ensures blocks { drop result places.new.items ≡ drop first places.old.items }
-    ensures before { 1 ≤ result }
-    ensures within { result < vec_len places.new }
-    ensures memory { 131072 ≤ vec_capacity places.new }
-{
-    if first == 0 {
-        centred(places, first)
+    let at = rounded_up(from, align);
+    if at + bytes < end {
+        Some(Place { before: None, at })
     } else {
-        first
+        None
     }
 }
 
-// The number of the first block, once there is room behind the last one.
-fn room_behind(places: &mut Vec<Block>, first: usize) -> usize
-    requires within { first ≤ vec_len places.old }
-    requires few { vec_len places.old < first + 65536 }
-    requires memory { 131072 ≤ vec_capacity places.old }
-    ensures blocks { drop result places.new.items ≡ drop first places.old.items }
-    ensures within { result ≤ vec_len places.new }
-    ensures behind { vec_len places.new < 131072 }
-    ensures memory { 131072 ≤ vec_capacity places.new }
+// Puts a block before the one of a seat, or behind all, and sees that a chunk is spare after it.
+fn put(
+    chunks: &mut Vec<Chunk>,
+    spares: &mut Vec<Chunk>,
+    base: u64,
+    before: Option<Seat>,
+    block: Block,
+)
+    requires row { IsRow base (length (blocks_of chunks.old.items)) chunks.old.items (vec_len chunks.old) (vec_len spares.old) (vec_capacity chunks.old) (vec_capacity spares.old) }
+    requires seat { IsBefore chunks.old.items before }
+    requires low { base ≤ block.at }
+    requires place { Divides (blocks_of chunks.old.items) (number_of chunks.old.items before) block.at block.bytes }
+    requires high { block.at + block.bytes < 2 ^ 62 }
+    requires room { length (blocks_of chunks.old.items) < 65536 }
+    ensures blocks { blocks_of chunks.new.items ≡ insert (blocks_of chunks.old.items) (number_of chunks.old.items before) block }
+    ensures row { IsRow base (length (blocks_of chunks.new.items)) chunks.new.items (vec_len chunks.new) (vec_len spares.new) (vec_capacity chunks.new) (vec_capacity spares.new) }
 {
-    if places.len() >= PLACES {
-        centred(places, first)
-    } else {
-        first
+    match before {
+        Some(seat) => put_before(chunks, spares, base, seat, block),
+        None => put_last(chunks, spares, base, block),
     }
-}
-
-// Moves the blocks to where half as many have room before them, and answers the number of the first.
-fn centred(places: &mut Vec<Block>, first: usize) -> usize
-    requires within { first ≤ vec_len places.old }
-    requires few { vec_len places.old < first + 65536 }
-    requires memory { 131072 ≤ vec_capacity places.old }
-    ensures blocks { drop result places.new.items ≡ drop first places.old.items }
-    ensures middle { vec_len places.old ≤ first + 2 * result }
-    ensures near { result < 32769 }
-    ensures end { vec_len places.new + first ≡ result + vec_len places.old }
-    ensures memory { 131072 ≤ vec_capacity places.new }
-{
-    let count = places.len() - first;
-    let start = (count + 1) / 2;
-    let unused = Block {
-        at: 0,
-        ty: 0,
-        count: 1,
-        bytes: 1,
-    };
-    if places.len() < start + count {
-        let _ = places.resize(start + count, unused);
+    if spares.is_empty() {
+        join(chunks, spares, base);
     }
-    places.copy_within(first..first + count, start);
-    places.truncate(start + count);
-    start
 }

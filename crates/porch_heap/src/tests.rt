@@ -1,4 +1,7 @@
+ghost use Rattle.porch_heap.specs.Blocks.{IsAlignment};
+
 use super::*;
+use std::process::Abort;
 use std::test::Fail;
 
 #[test]
@@ -26,7 +29,8 @@ fn places_with_blocks_ending_between(rt: HostRuntime) -> Result<(), Fail> {
     assert_eq!(rt; heap.give_back(1000), Ok(()));
     assert_eq!(rt; heap.take(0, 9, 9, 1), Ok(1033));
     assert_eq!(rt; heap.take(0, 7, 7, 8), Ok(1000));
-    assert_eq!(rt; heap.blocks().len(), 6);
+    assert_eq!(rt; heap.len(), 6);
+    assert_eq!(rt; heap.blocks().count(), 6);
     let full = HeapFull {
         asked: 22,
         largest: 21,
@@ -104,38 +108,124 @@ fn the_most_blocks(rt: HostRuntime) -> Result<(), Fail> {
     Ok(())
 }
 
-// A block before the only one finds no room before it, and so many turns of a `free` and an
-// allocation use up the room behind the last one: each time all blocks move to the middle.
-#[test]
-fn blocks_move_to_the_middle(rt: HostRuntime) -> Result<(), Fail> {
-    let mut heap = Heap::new(rt.alloc(), 17, 100)?;
-    assert_eq!(rt; heap.take(1, 1, 4, 8), Ok(24));
-    assert_eq!(rt; heap.take(2, 1, 6, 1), Ok(17));
-    assert_eq!(rt; heap.take(3, 1, 8, 8), Ok(32));
-    for _ in 0..140_000u32 {
-        assert_eq!(rt; heap.give_back(24), Ok(()));
-        assert_eq!(rt; heap.take(1, 1, 4, 8), Ok(24));
+// The next of some numbers below 2^31 that look random.
+fn next(seed: u32) -> u32 {
+    ((u64::from(seed) * 1_103_515_245 + 12_345) % 2_147_483_648) as u32
+}
+
+fn alignment(seed: u64) -> u64
+    ensures { IsAlignment result }
+{
+    match seed % 4 {
+        0 => 1,
+        1 => 2,
+        2 => 4,
+        _ => 8,
     }
-    let blocks = [
-        Block {
-            at: 17,
-            ty: 2,
-            count: 1,
-            bytes: 6,
-        },
-        Block {
-            at: 24,
-            ty: 1,
-            count: 1,
-            bytes: 4,
-        },
-        Block {
-            at: 32,
-            ty: 3,
-            count: 1,
-            bytes: 8,
-        },
-    ];
-    assert_eq!(rt; heap.blocks(), blocks.as_slice());
+}
+
+// What a list in no parts says: the lowest place for a request among blocks by rising address.
+fn lowest(blocks: &[Block], end: u64, bytes: u64, align: u64) -> Option<u64>
+    requires { IsAlignment align }
+{
+    let mut at = 0u64;
+    for block in blocks {
+        if at.saturating_add(bytes) < block.at {
+            return Some(at);
+        }
+        let behind = block.at.saturating_add(block.bytes).saturating_add(align);
+        at = behind - behind % align;
+    }
+    if at.saturating_add(bytes) < end {
+        Some(at)
+    } else {
+        None
+    }
+}
+
+fn put(blocks: &mut Vec<Block>, block: Block) -> Result<(), Fail> {
+    let index = blocks.iter().take_while(|b| b.at < block.at).count();
+    blocks.insert(index, block)?;
+    Ok(())
+}
+
+fn one_turn(
+    rt: &impl Abort,
+    heap: &mut Heap,
+    blocks: &mut Vec<Block>,
+    seed: u64,
+) -> Result<(), Fail> {
+    if seed % 5 == 0 && !blocks.is_empty() {
+        let gone = blocks.remove((seed / 8 % blocks.len() as u64) as usize);
+        assert_eq!(rt; heap.give_back(gone.at), Ok(()));
+        assert_eq!(rt; heap.give_back(gone.at), Err(NotABlock));
+        return Ok(());
+    }
+    let align = alignment(seed / 8);
+    let bytes = seed / 64 % 40 + 1;
+    match lowest(blocks.as_slice(), 60_000, bytes, align) {
+        Some(at) => {
+            assert_eq!(rt; heap.take(7, 1, bytes, align), Ok(at));
+            put(
+                blocks,
+                Block {
+                    at,
+                    ty: 7,
+                    count: 1,
+                    bytes,
+                },
+            )
+        }
+        None => {
+            assert!(rt; heap.take(7, 1, bytes, align).is_err());
+            Ok(())
+        }
+    }
+}
+
+// Against a list in no parts, over thousands of turns, in which chunks are split and given up.
+#[test]
+fn as_a_list_in_no_parts(rt: HostRuntime) -> Result<(), Fail> {
+    let mut heap = Heap::new(rt.alloc(), 0, 60_000)?;
+    let mut blocks = Vec::new(rt.alloc());
+    let mut seed = 1;
+    for _ in 0..6000u32 {
+        seed = next(seed);
+        one_turn(&rt, &mut heap, &mut blocks, u64::from(seed) / 256)?;
+    }
+    assert!(rt; heap.len() > 1000);
+    assert!(rt; heap.blocks().eq(blocks.iter()));
+    for block in blocks.iter() {
+        assert_eq!(rt; heap.give_back(block.at), Ok(()));
+    }
+    assert_eq!(rt; heap.blocks().count(), 0);
+    Ok(())
+}
+
+// Of each 256 blocks only the last one stays, and small ones fill the gaps before it: chunks are split
+// until no spare one is left, and then those that follow one another become one.
+#[test]
+fn spare_chunks_run_out(rt: HostRuntime) -> Result<(), Fail> {
+    let mut heap = Heap::new(rt.alloc(), 0, 1_000_000)?;
+    for number in 0..32_000u64 {
+        assert_eq!(rt; heap.take(8, 1, 8, 1), Ok(9 * number));
+    }
+    for number in 0..32_000u64 {
+        if number % 256 != 255 {
+            assert_eq!(rt; heap.give_back(9 * number), Ok(()));
+        }
+    }
+    for number in 0..65_411u64 {
+        assert_eq!(rt;
+            heap.take(1, 1, 1, 1),
+            Ok(number / 1147 * 2304 + number % 1147 * 2)
+        );
+    }
+    assert_eq!(rt; heap.len(), 65_536);
+    let mut from = 0;
+    for block in heap.blocks() {
+        assert!(rt; block.at >= from);
+        from = block.at.saturating_add(block.bytes).saturating_add(1);
+    }
     Ok(())
 }

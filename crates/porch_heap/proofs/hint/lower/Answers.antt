@@ -1,5 +1,6 @@
 use Rattle.std.proofs.Common.{◌<◌, length, arith, add-one}
 use Rattle.porch_heap.specs.declared.hint.Hint.{Hint}
+use Rattle.porch_heap.specs.Hints.{lowered}
 use Rattle.porch_heap.proofs.Hints.{lower_done, lower_rest}
 use Rattle.porch_heap.proofs.hint.lower.Goals as goal
 
@@ -11,6 +12,6 @@ loop-hint-preserved c =
     let first : c.loop-hint.hint-index < length c.args.hints.now = omega arith in
     let here : c.loop-hint.hint-index < length c.loop-hint.hints = omega arith in
     record {
-      done = rw add-one (lower_done c.args.from c.loop-hint.hints c.args.hints.now c.loop-hint.hint-index c.min-hint.result d here first c.loop-hint.invariant.done c.loop-hint.invariant.rest c.min-hint.ensures);
+      done = rw add-one (lower_done (lowered c.args.gap.from c.args.gap.bytes) c.loop-hint.hints c.args.hints.now c.loop-hint.hint-index _ d here first c.loop-hint.invariant.done c.loop-hint.invariant.rest c.lowered_to.ensures);
       rest = rw add-one (lower_rest c.loop-hint.hints c.args.hints.now c.loop-hint.hint-index _ here first c.loop-hint.invariant.rest);
     }

@@ -1,8 +1,8 @@
-use Rattle.std.proofs.Common.{◌≢◌, take, arith}
+use Rattle.std.proofs.Common.{◌≢◌, ◌^◌, take, arith}
 use Rattle.porch_heap.specs.declared.block.Block.{Block}
 use Rattle.porch_heap.specs.Searching.{EndsBefore}
 use Rattle.porch_heap.proofs.Lists.{head_at, each_map, each_parts}
-use Rattle.porch_heap.proofs.Edits.{none_begin}
+use Rattle.porch_heap.proofs.Changes.{none_begin}
 use Rattle.porch_heap.proofs.place.number_of.Goals as goal
 
 pub returns-then-live-index-clause-none : goal.returns-then-live-index-clause-none
@@ -12,4 +12,4 @@ returns-then-live-index-clause-none c =
     let other = c.if-live-index.true in
     each_parts (λ (b : Block). b.at ≢ c.args.at) c.args.live.now c.index_of-index.result
     (each_map (EndsBefore c.args.at) (λ (b : Block). b.at ≢ c.args.at) (λ b k. omega arith) (take c.index_of-index.result c.args.live.now) c.index_of-index.ensures.before)
-    (none_begin c.args.base c.args.end c.args.at c.args.live.now c.index_of-index.result c.requires.stand c.index_of-index.ensures.here (head_at (λ (b : Block). b.at ≢ c.args.at) c.args.live.now c.index_of-index.result d (omega arith) other))
+    (none_begin c.args.from (2 ^ 62) c.args.at c.args.live.now c.index_of-index.result c.requires.stand c.index_of-index.ensures.here (head_at (λ (b : Block). b.at ≢ c.args.at) c.args.live.now c.index_of-index.result d (omega arith) other))

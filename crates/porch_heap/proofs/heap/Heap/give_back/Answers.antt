@@ -1,37 +1,38 @@
-use Rattle.std.proofs.Common.{◌≡◌, ◌<◌, false, true, length, drop, ◌∙◌, refl}
+use Rattle.std.proofs.Common.{◌≡◌, false, true, ◌∙◌, refl}
 use Rattle.porch_heap.specs.Blocks.{without, begins}
-use Rattle.porch_heap.specs.Searching.{Head, gap_low}
-use Rattle.porch_heap.proofs.Edits.{without-remove, begins-head, begins-none}
-use Rattle.porch_heap.proofs.Keeps.{removed_keeps}
+use Rattle.porch_heap.specs.Chunks.{blocks_of, rank}
+use Rattle.porch_heap.proofs.Changes.{without-remove, begins-head, begins-none}
+use Rattle.porch_heap.proofs.HeapKept.{removed_keeps}
+use Rattle.porch_heap.proofs.Ranks.{rank_within}
 use Rattle.porch_heap.proofs.heap.Heap.give_back.Goals as goal
 
 pub invariant_of-self : goal.invariant_of-self
 invariant_of-self c =
-    let less : c.in-Some.index < length c.self.inside.live = rw c.as_slice.ensures at c.in-Some.ensures.found in
-    let low : c.free_from-from.result ≡ gap_low c.self.inside.base c.in-Some.index c.self.inside.live = rw c.as_slice-in-Some.ensures at c.free_from-from.ensures in
-    rw (c.remove.ensures, c.lower.ensures, low)
-    (removed_keeps c.self.inside.base c.self.inside.bytes c.self.inside.live c.self.inside.hints c.in-Some.index c.self.invariant less)
+    let cs = c.self.inside.live.chunks in
+    let less = rank_within cs c.in-Some.seat.chunk c.in-Some.seat.index c.in-Some.ensures.found in
+    rw (c.remove.ensures.base, c.remove.ensures.blocks, c.lower.ensures)
+    (removed_keeps c.self.inside.live.base c.self.inside.bytes (blocks_of cs) c.self.inside.hints (rank cs c.in-Some.seat.chunk c.in-Some.seat.index) c.gap-gap.result.from c.gap-gap.result.bytes c.self.invariant less c.gap-gap.ensures.from (rw c.base.ensures at c.gap-gap.ensures.bytes))
 
 pub returns-in-Some-clause-gone : goal.returns-in-Some-clause-gone
 returns-in-Some-clause-gone c =
-    let less : c.in-Some.index < length c.self.inside.live = rw c.as_slice.ensures at c.in-Some.ensures.found in
-    let here : Head (λ b. b.at ≡ c.args.at) (drop c.in-Some.index c.self.inside.live) = rw c.as_slice.ensures at c.in-Some.ensures.begins in
-    let gone : c.remove.new.self ≡ without c.args.at c.self.inside.live =
-    c.remove.ensures ∙ without-remove c.self.inside.base _ c.args.at c.self.inside.live c.in-Some.index c.self.invariant.heap.stand less here
+    let cs = c.self.inside.live.chunks in
+    let less = rank_within cs c.in-Some.seat.chunk c.in-Some.seat.index c.in-Some.ensures.found in
+    let gone : blocks_of c.remove.new.self.chunks ≡ without c.args.at (blocks_of cs) =
+    c.remove.ensures.blocks ∙ without-remove c.self.inside.live.base _ c.args.at (blocks_of cs) (rank cs c.in-Some.seat.chunk c.in-Some.seat.index) c.self.invariant.heap.stand less c.in-Some.ensures.begins
     in
-    rw (gone, ← c.self.view_is) refl
+    rw (gone, c.remove.ensures.base, ← c.self.view_is) refl
 
 pub returns-in-Some-clause-valid : goal.returns-in-Some-clause-valid
 returns-in-Some-clause-valid c = (invariant_of-self c).heap
 
 pub returns-in-Some-clause-begins : goal.returns-in-Some-clause-begins
 returns-in-Some-clause-begins c =
-    let less : c.in-Some.index < length c.self.inside.live = rw c.as_slice.ensures at c.in-Some.ensures.found in
-    let here : Head (λ b. b.at ≡ c.args.at) (drop c.in-Some.index c.self.inside.live) = rw c.as_slice.ensures at c.in-Some.ensures.begins in
-    let one : begins c.args.at c.self.inside.live ≡ true = begins-head c.args.at c.self.inside.live c.in-Some.index less here in
+    let cs = c.self.inside.live.chunks in
+    let less = rank_within cs c.in-Some.seat.chunk c.in-Some.seat.index c.in-Some.ensures.found in
+    let one : begins c.args.at (blocks_of cs) ≡ true = begins-head c.args.at (blocks_of cs) (rank cs c.in-Some.seat.chunk c.in-Some.seat.index) less c.in-Some.ensures.begins in
     rw (← c.self.view_is) (rw one ((λ h. h), (λ h. h)))
 
 pub returns-in-None-clause-begins : goal.returns-in-None-clause-begins
 returns-in-None-clause-begins c =
-    let none : begins c.args.at c.self.inside.live ≡ false = begins-none c.args.at c.self.inside.live (rw c.as_slice.ensures at c.in-None.ensures.none) in
+    let none : begins c.args.at (blocks_of c.self.inside.live.chunks) ≡ false = begins-none c.args.at (blocks_of c.self.inside.live.chunks) c.in-None.ensures.none in
     rw (← c.self.view_is) (rw none ((λ h. h), (λ h. h)))

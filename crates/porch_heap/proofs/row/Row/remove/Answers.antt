@@ -1,21 +1,40 @@
-use Rattle.std.proofs.Common.{◌+◌, ◌-◌, length, take, drop, ◌++◌, ◌∙◌, ap, arith}
-use Rattle.std.proofs.lemmas.List.{with_items_is}
-use Rattle.porch_heap.proofs.Rows.{length-rest, low-remove, drop-remove}
+use Rattle.std.proofs.Common.{◌<◌, ◌∙◌, ap, length, arith}
+use Rattle.porch_heap.specs.Chunks.{blocks_of, blocks_at, rank}
+use Rattle.porch_heap.proofs.Ranks.{rank_within, length_less}
 use Rattle.porch_heap.proofs.row.Row.remove.Goals as goal
 
-pub returns-then-index-len : goal.returns-then-index-len
-returns-then-index-len c =
-    let within = c.self.invariant.0 in
-    let len = c.as_mut_slice.ensures.len in
-    let first = c.self.inside.first in
-    let now = c.as_mut_slice.result.now in
-    let rest = length now - first in
-    let tail = c.close_low.new.tail in
-    let same = c.close_low.auto.tail in
-    let kept = with_items_is c.self.inside.places (take first now ++ (tail ++ drop rest (drop first now))) (length-rest first rest now tail (omega arith) same ∙ len) in
-    ap (drop (first + 1)) kept ∙ rw (← c.self.view_is, ← c.as_mut_slice.ensures.value) (low-remove first c.args.index now tail (omega arith) c.close_low.ensures)
+pub overflow_sub-self : goal.overflow_sub-self
+overflow_sub-self c =
+    let cs = c.self.inside.chunks.items in
+    let seat : c.args.seat.index < length (blocks_at cs c.args.seat.chunk) = rw (← c.self.view_is) at c.requires.seat in
+    let less = rank_within cs c.args.seat.chunk c.args.seat.index seat in
+    let counted = c.self.invariant.counted in
+    omega arith
 
-pub returns-else-index-len : goal.returns-else-index-len
-returns-else-index-len c =
-    let within = c.self.invariant.0 in
-    rw (c.remove.ensures.items, ← c.self.view_is) (drop-remove c.self.inside.first c.args.index (c.self.inside.first + c.args.index) c.self.inside.places.items (omega arith) (omega arith))
+pub invariant_of-self : goal.invariant_of-self
+invariant_of-self c =
+    let cs = c.self.inside.chunks.items in
+    let seat : c.args.seat.index < length (blocks_at cs c.args.seat.chunk) = rw (← c.self.view_is) at c.requires.seat in
+    let less = rank_within cs c.args.seat.chunk c.args.seat.index seat in
+    let i = c.self.invariant in
+    let counted = i.counted in
+    let few = i.few in
+    let all = i.all in
+    let some = i.some in
+    let enough = i.enough in
+    let enough_spare = i.enough_spare in
+    let all_kept = c.take_out.ensures.all in
+    let spare = c.take_out.ensures.spare in
+    let memory = c.take_out.ensures.memory in
+    let spares = c.take_out.ensures.spares in
+    let shorter = ap length c.take_out.ensures.blocks ∙ length_less (blocks_of cs) (rank cs c.args.seat.chunk c.args.seat.index) less in
+    record {
+      low = i.low;
+      linked = c.take_out.ensures.linked;
+      counted = rw shorter (omega arith);
+      few = omega arith;
+      all = omega arith;
+      some = omega arith;
+      enough = omega arith;
+      enough_spare = omega arith;
+    }
