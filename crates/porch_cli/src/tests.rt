@@ -48,77 +48,87 @@ fn answer(
     Ok(Called { status, out, err })
 }
 
+/// Words, a program, what it shows, the closing line and the number of the status.
+type Row = (
+    &'static [&'static str],
+    &'static str,
+    &'static str,
+    &'static str,
+    u8,
+);
+
+const PROGRAMS: [Row; 12] = [
+    (
+        &["exec"],
+        "int main(void){putchar('A');return 0;}",
+        "A",
+        "done 0 1\n",
+        0,
+    ),
+    (&["exec"], COUNTING, "012", "done 0 4\n", 0),
+    (&["exec", "--turns", "4"], COUNTING, "012", "done 0 4\n", 0),
+    (&["exec", "--turns", "3"], COUNTING, "01", "paused 3\n", 5),
+    (
+        &["exec", "--turns", "0000000000000000001"],
+        COUNTING,
+        "",
+        "paused 1\n",
+        5,
+    ),
+    (
+        &["exec"],
+        "int main(void){int i;return i;}",
+        "",
+        "done 0 1\n",
+        0,
+    ),
+    (
+        &["exec"],
+        "int main(void){int x=x;return 5;}",
+        "",
+        "done 5 1\n",
+        0,
+    ),
+    (
+        &["exec"],
+        "int main(void){int i=2147483647;i=i+1;return i;}",
+        "",
+        "trap Overflow 1\n",
+        3,
+    ),
+    (
+        &["exec"],
+        "int main(void){return 0-2147483647-1;}",
+        "",
+        "done -2147483648 1\n",
+        0,
+    ),
+    (
+        &["exec"],
+        " int\tmain ( void )\n{ }\r\x0b\x0c",
+        "",
+        "done 0 1\n",
+        0,
+    ),
+    (
+        &["exec"],
+        "int main(void){int a=2;int b=3;while(b<a*a){b=b+1;putchar(b*20-7*(a<b)-4);}return b-a*b;}",
+        "E",
+        "done -4 2\n",
+        0,
+    ),
+    (
+        &["exec"],
+        "int main(void){int n=0;int m;while(n<2){m=0;while(m<2){putchar('a'+n*2+m);m=m+1;}n=n+1;}return n;}",
+        "abcd",
+        "done 2 7\n",
+        0,
+    ),
+];
+
 #[test]
 fn programs_run(rt: HostRuntime) -> Result<(), Fail> {
-    let rows: [(&[&str], &str, &str, &str, u8); 12] = [
-        (
-            &["exec"],
-            "int main(void){putchar('A');return 0;}",
-            "A",
-            "done 0 1\n",
-            0,
-        ),
-        (&["exec"], COUNTING, "012", "done 0 4\n", 0),
-        (&["exec", "--turns", "4"], COUNTING, "012", "done 0 4\n", 0),
-        (&["exec", "--turns", "3"], COUNTING, "01", "paused 3\n", 5),
-        (
-            &["exec", "--turns", "0000000000000000001"],
-            COUNTING,
-            "",
-            "paused 1\n",
-            5,
-        ),
-        (
-            &["exec"],
-            "int main(void){int i;return i;}",
-            "",
-            "done 0 1\n",
-            0,
-        ),
-        (
-            &["exec"],
-            "int main(void){int x=x;return 5;}",
-            "",
-            "done 5 1\n",
-            0,
-        ),
-        (
-            &["exec"],
-            "int main(void){int i=2147483647;i=i+1;return i;}",
-            "",
-            "trap Overflow 1\n",
-            3,
-        ),
-        (
-            &["exec"],
-            "int main(void){return 0-2147483647-1;}",
-            "",
-            "done -2147483648 1\n",
-            0,
-        ),
-        (
-            &["exec"],
-            " int\tmain ( void )\n{ }\r\x0b\x0c",
-            "",
-            "done 0 1\n",
-            0,
-        ),
-        (
-            &["exec"],
-            "int main(void){int a=2;int b=3;while(b<a*a){b=b+1;putchar(b*20-7*(a<b)-4);}return b-a*b;}",
-            "E",
-            "done -4 2\n",
-            0,
-        ),
-        (
-            &["exec"],
-            "int main(void){int n=0;int m;while(n<2){m=0;while(m<2){putchar('a'+n*2+m);m=m+1;}n=n+1;}return n;}",
-            "abcd",
-            "done 2 7\n",
-            0,
-        ),
-    ];
-    for (words, text, out, err, number) in rows {
+    for (words, text, out, err, number) in PROGRAMS {
         let got = answer(rt.alloc(), words, text.as_bytes(), &[], &[], &[])?;
         assert_eq!(rt; got.out.held(), out.as_bytes(), "out of {text}");
         assert_eq!(rt; got.err.held(), err.as_bytes(), "err of {text}");
