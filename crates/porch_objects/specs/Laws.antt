@@ -1,13 +1,24 @@
 -- Laws that show what the words of the store and of meanings mean.
-use Rattle.std.specs.Prelude.{ℕ, ℤ, pos, negsuc, int_lt, true, false, ◌≡◌, ◌≢◌, ◌+◌, ◌%◌, ◌<◌, List, length, slice_get, Some}
-use Rattle.porch_objects.specs.Store.{Value, Object, leaf_at, stored}
+use Rattle.std.specs.Prelude.{ℕ, suc, ℤ, pos, negsuc, int_lt, true, false, ◌≡◌, ◌≢◌, ◌+◌, ◌%◌, ◌<◌, List, length, slice_get, Option, Some, None}
+use Rattle.porch_objects.specs.Store.{Home, of_call, of_block, Value, pointer, past, indeterminate, Object, Store, object_at, seen, leaf_at, with_leaf_at, entered, left, reached_one}
 use Rattle.porch_objects.specs.Meaning.{truth, byte_of}
 
 -- a stored value is read back, and every other leaf of every object is as it was
-pub record StoresAt (objects : List Object) (o leaf : ℕ) (v : Value) : Type 0 where
-  pub read : (object : Object) → slice_get objects o ≡ Some object → leaf < length object.leaves → leaf_at (stored objects o leaf v) o leaf ≡ v
-  pub other_leaf : (k : ℕ) → k ≢ leaf → leaf_at (stored objects o leaf v) o k ≡ leaf_at objects o k
-  pub other_object : (p k : ℕ) → p ≢ o → leaf_at (stored objects o leaf v) p k ≡ leaf_at objects p k
+pub record StoresAt (s : Store) (home : Home) (leaf : ℕ) (v : Value) : Type 0 where
+  pub read : (object : Object) → object_at s home ≡ Some object → leaf < length object.leaves → leaf_at (with_leaf_at s home leaf v) home leaf ≡ v
+  pub other_leaf : (k : ℕ) → k ≢ leaf → leaf_at (with_leaf_at s home leaf v) home k ≡ leaf_at s home k
+  pub other_object : (other : Home) (k : ℕ) → other ≢ home → leaf_at (with_leaf_at s home leaf v) other k ≡ leaf_at s other k
+
+-- seeing a value twice is seeing it once
+abbrev pub SeenOnce : Type 0
+SeenOnce = (s : Store) (v : Value) → seen s (seen s v) ≡ seen s v
+
+-- A checkpoint() that is reached makes an end that is shared with what follows indeterminate, once and for all, and
+-- leaves every other value as it was.
+pub record ForgetsEnds (s : Store) (home : Home) (leaf : ℕ) : Type 0 where
+  pub shared : seen (reached_one s) (past home leaf (Some s.checkpoints)) ≡ indeterminate
+  pub unshared : seen (reached_one s) (past home leaf None) ≡ seen s (past home leaf None)
+  pub element : seen (reached_one s) (pointer home leaf) ≡ seen s (pointer home leaf)
 
 -- a comparison is 1 where it holds, else 0
 pub record IsTruth (x y : ℤ) : Type 0 where

@@ -2,3 +2,4 @@ pub mod Leaves
 pub mod Rows
 pub mod Adding
 pub mod Kept
+pub mod LeafTypes
