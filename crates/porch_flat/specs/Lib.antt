@@ -2,3 +2,4 @@ pub mod Places
 pub mod Labelled
 pub mod Valid
 pub mod Checked
+pub mod Parts
