@@ -1,5 +1,5 @@
 -- Chunks that follow one another, each of which tells where the free bytes before its first block begin.
-use Rattle.std.specs.Prelude.{◌≡◌, ℕ, zero, suc, ◌+◌, ◌-◌, ◌%◌, ◌<◌, ◌≤◌, ◌^◌, ◌++◌, max, length, take, drop, List, [], ◌∷◌}
+use Rattle.std.specs.Prelude.{◌≡◌, ℕ, zero, suc, ◌+◌, ◌-◌, ◌%◌, ◌<◌, ◌≤◌, ◌^◌, max, length, take, drop, List, [], ◌∷◌}
 use Rattle.porch_heap.specs.declared.block.Block.{Block}
 use Rattle.porch_heap.specs.Blocks.{Stand}
 use Rattle.porch_heap.specs.Chunks.{ChunkState, blocks_of}
