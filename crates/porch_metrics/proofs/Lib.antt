@@ -6,3 +6,7 @@ pub mod Measuring
 pub mod Descending
 pub mod Reading
 pub mod Rising
+pub mod ExtentBounds
+pub mod RowPlaces
+pub mod RowAlignment
+pub mod RowsApart

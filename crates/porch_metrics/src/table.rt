@@ -1,8 +1,10 @@
+//! The measures of each type of a list, kept in a table.
+
 ghost use Rattle.std.specs.Prelude.{◌≡◌, ◌<◌, ◌≤◌, ◌+◌, ◌*◌, ◌^◌, ℕ, All, length, slice_get, slice_index, Some, IfOk, max, map};
 ghost use Rattle.porch_layout.specs.Layouts.{IsLayout};
 ghost use Rattle.porch_types.specs.Leaves.{parts_of, width_of};
 ghost use Rattle.porch_metrics.specs.Extents.{round_up, extent_in, extents_of, type_extent, greatest_align, member_places, members_end, kind_extent};
-ghost use Rattle.porch_metrics.specs.Tables.{extent, places_of, AreMeasured, IsSmall, IsTable};
+ghost use Rattle.porch_metrics.specs.inside.Tables.{extent, places_of, AreMeasured, IsSmall, IsTable};
 
 use crate::rounding::rounded_up;
 use porch_layout::Layout;

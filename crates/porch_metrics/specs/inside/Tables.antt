@@ -2,7 +2,7 @@
 use Rattle.std.specs.Prelude.{◌≡◌, ℕ, ◌<◌, ◌≤◌, List, [], length, slice_get, Option, Some, None, map}
 use Rattle.porch_types.specs.declared.shapes.Ty.{Ty}
 use Rattle.porch_types.specs.declared.shapes.Ty.TheVariants.{Whole, Pointer, Array, Struct}
-use Rattle.porch_types.specs.Leaves.{IsFormed, leaf_count, leaves_of}
+use Rattle.porch_types.specs.Leaves.{IsFormed, IsTypes, leaf_count, leaves_of}
 use Rattle.porch_layout.specs.declared.layout.Layout.{Layout}
 use Rattle.porch_layout.specs.Layouts.{IsLayout}
 use Rattle.porch_metrics.specs.declared.table.Measured.{Measured}
@@ -40,14 +40,10 @@ pub record AreMeasured (under : Layout) (types : List Ty) (measured : List Measu
 
 -- a table of the measures of these types
 pub record IsTable (types : List Ty) (table : Table) : Type 0 where
+  pub types_are : IsTypes types
   pub counted : AreCounted types
   pub layout : IsLayout table.layout
   pub measured : AreMeasured table.layout types table.measured.items
-
--- the types and the layout that places are counted under
-pub record Measures : Type 0 where
-  pub types : List Ty
-  pub layout : Layout
 
 -- a table under the layout, and one packed as in a UCF file
 pub record AreTables (types : List Ty) (native packed : Table) : Type 0 where

@@ -1,6 +1,6 @@
 use Rattle.std.proofs.Common.{◌≤◌, ◌+◌, ◌∙◌, length, map, arith, ap, sym, subst, take, length-append, [], ◌∷◌}
 use Rattle.porch_metrics.specs.Extents.{extent_in, type_extent}
-use Rattle.porch_metrics.specs.Tables.{extent, places_of, AreMeasured, IsSmall}
+use Rattle.porch_metrics.specs.inside.Tables.{extent, places_of, AreMeasured, IsSmall}
 use Rattle.porch_metrics.proofs.Counted.{counted}
 use Rattle.porch_metrics.proofs.Measuring.{measured_small, measured_put, parts_few, take_all}
 use Rattle.porch_metrics.proofs.table.measure.Goals as goal
@@ -37,6 +37,7 @@ loop-number-preserved c =
 
 pub returns-clause-table : goal.returns-clause-table
 returns-clause-table c = record {
+  types_are = c.len-len.ensures.types;
   counted = counted c.args.types.now c.len-len.ensures.types c.leaves_add_up.ensures.together c.leaves_add_up.ensures.some;
   layout = c.requires;
   measured = subst (λ ts. AreMeasured c.args.layout.now ts c.loop-number.measured.items)
