@@ -1,4 +1,6 @@
 pub mod Leaves
+pub mod Kinds
 pub mod Rows
+pub mod LeafTypes
 pub mod Adding
 pub mod Kept

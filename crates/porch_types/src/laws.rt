@@ -1,6 +1,16 @@
 ghost use Rattle.std.specs.Prelude.{◌≡◌, ◌<◌, ℕ, List, length, slice_get, Some};
+ghost use Rattle.porch_types.specs.declared.shapes.Kind.{Kind};
 ghost use Rattle.porch_types.specs.declared.shapes.Ty.{Ty};
+ghost use Rattle.porch_types.specs.Kinds.{kind_number, int_type};
 ghost use Rattle.porch_types.specs.Leaves.{IsTypes, leaf_count, leaves_of};
+
+use crate::shapes::INT;
+
+/// Each list of types has each kind under its number, and `int` under `INT`.
+pub fn kinds_come_first()
+    ensures kinds { (types : List Ty) (kind : Kind) → IsTypes types → slice_get types (kind_number kind) ≡ Some (Ty.Whole kind) }
+    ensures int { INT ≡ int_type }
+{}
 
 /// A type has the leaves of its parts together, and at least one.
 pub fn leaves_add_up()
