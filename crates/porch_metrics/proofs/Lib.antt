@@ -10,3 +10,4 @@ pub mod ExtentBounds
 pub mod RowPlaces
 pub mod RowAlignment
 pub mod RowsApart
+pub mod Packed

@@ -77,7 +77,7 @@ abbrev Ends : Layout → List Ty → ℕ → ℕ → ℕ → ℕ → Type 0
 Ends l types root ty first len = (k b : ℕ) → k < len → first + (k + 1) * leaves_of types ty ≤ b
     → place_of l types root (first + k * leaves_of types ty) + (extent_of l types ty).size ≤ place_of l types root b
 
-one_more : (k s : ℕ) → (k + 1) * s ≡ k * s + s
+pub one_more : (k s : ℕ) → (k + 1) * s ≡ k * s + s
 one_more k s = grind arith
 
 ends_root : (l : Layout) (types : List Ty) (root count : ℕ) → IsLayout l → AreCounted types → root < length types → Ends l types root root 0 count

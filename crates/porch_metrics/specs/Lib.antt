@@ -8,7 +8,7 @@ pub mod Bounds
 pub mod PlacedRows
 -- leaves and subobjects lie apart
 pub mod Apart
--- a type's extent from those of its parts, and in longer lists
-pub mod Longer
+-- a type's extent comes from those of its parts, and stays in longer lists
+pub mod AddingUp
 -- what only private contracts cite
 pub mod inside

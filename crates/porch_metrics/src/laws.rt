@@ -5,8 +5,8 @@ ghost use Rattle.porch_layout.specs.Layouts.{IsLayout};
 ghost use Rattle.porch_metrics.specs.Extents.{round_up, ucf_layout};
 ghost use Rattle.porch_metrics.specs.Bounds.{ExtentsAreBounded, PlacesAreBounded, ElementsHavePlaces, ElementsAreAligned};
 ghost use Rattle.porch_metrics.specs.PlacedRows.{RowsHavePlaces, PlacesAreOfRows, LeavesStandInRows, ElementsStandInRows, LeavesStandInSubobjects, SubobjectsAreAligned, RootsAreAligned};
-ghost use Rattle.porch_metrics.specs.Apart.{PlacesRise, PartsLieInside, SubobjectsLieApart};
-ghost use Rattle.porch_metrics.specs.Longer.{ExtentsAddUp, ArraysAddUp, PointersAreAlike, ExtentsStay};
+ghost use Rattle.porch_metrics.specs.Apart.{PlacesRise, PartsLieInside, SubobjectsLieApart, SubobjectsArePacked};
+ghost use Rattle.porch_metrics.specs.AddingUp.{ExtentsAddUp, ArraysAddUp, PointersAreAlike, ExtentsStay};
 
 use porch_types::leaves_add_up;
 
@@ -58,6 +58,13 @@ pub fn parts_lie_inside()
 /// A subobject ends at or before each leaf that follows its last one.
 pub fn subobjects_lie_apart()
     ensures { SubobjectsLieApart }
+{
+    leaves_add_up();
+}
+
+/// In a UCF file the leaf after a subobject begins where the subobject ends.
+pub fn ucf_subobjects_are_packed()
+    ensures { SubobjectsArePacked }
 {
     leaves_add_up();
 }

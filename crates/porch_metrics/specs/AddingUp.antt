@@ -1,4 +1,4 @@
--- A type's extent comes from those of its parts, and stays where types are added behind it.
+-- A type's extent comes from those of its parts, and so stays where types are added behind it.
 use Rattle.std.specs.Prelude.{◌≡◌, ℕ, ◌*◌, ◌<◌, List, ◌++◌, length, slice_get, Some}
 use Rattle.porch_types.specs.declared.shapes.Ty.{Ty}
 use Rattle.porch_types.specs.declared.shapes.Ty.TheVariants.{Pointer, Array}
