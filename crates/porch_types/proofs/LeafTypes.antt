@@ -21,7 +21,7 @@ by_part : (types : List Ty) (n m ty leaf : ℕ) (o : Option Part) → ((part : P
 by_part types n m ty leaf None same = refl
 by_part types n m ty leaf (Some part) same = same part refl
 
-part_earlier : (types : List Ty) (ty leaf : ℕ) (part : Part) → AreFormed types → part_at types ty leaf ≡ Some part → part.ty < ty
+pub part_earlier : (types : List Ty) (ty leaf : ℕ) (part : Part) → AreFormed types → part_at types ty leaf ≡ Some part → part.ty < ty
 part_earlier types ty leaf part formed is =
     let d : depth_of (Some part) ≤ ty = subst (λ o. depth_of o ≤ ty) is (depth_part types ty leaf formed) in
     omega (arith, d)

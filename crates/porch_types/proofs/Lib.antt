@@ -8,3 +8,4 @@ pub mod Subobjects
 pub mod Copying
 pub mod LeafTypes
 pub mod KindTypes
+pub mod Longer
