@@ -11,3 +11,5 @@ pub mod RowPlaces
 pub mod RowAlignment
 pub mod RowsApart
 pub mod Packed
+pub mod PlacesStay
+pub mod LeavesApart

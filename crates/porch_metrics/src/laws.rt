@@ -6,9 +6,9 @@ ghost use Rattle.porch_metrics.specs.Extents.{round_up, ucf_layout};
 ghost use Rattle.porch_metrics.specs.Bounds.{ExtentsAreBounded, PlacesAreBounded, ElementsHavePlaces, ElementsAreAligned};
 ghost use Rattle.porch_metrics.specs.PlacedRows.{RowsHavePlaces, PlacesAreOfRows, LeavesStandInRows, ElementsStandInRows, LeavesStandInSubobjects, SubobjectsAreAligned, RootsAreAligned};
 ghost use Rattle.porch_metrics.specs.Apart.{PlacesRise, PartsLieInside, SubobjectsLieApart, SubobjectsArePacked};
-ghost use Rattle.porch_metrics.specs.AddingUp.{ExtentsAddUp, ArraysAddUp, PointersAreAlike, ExtentsStay};
+ghost use Rattle.porch_metrics.specs.AddingUp.{ExtentsAddUp, ArraysAddUp, PointersAreAlike, ExtentsStay, PlacesStay};
 
-use porch_types::leaves_add_up;
+use porch_types::{earlier_types_stay, leaves_add_up};
 
 /// The layout whose places are those of a UCF file is one that may be used.
 pub fn ucf_is_a_layout()
@@ -36,10 +36,14 @@ pub fn extents_add_up()
     ensures pointers { PointersAreAlike }
 {}
 
-/// Types that are added leave the extents of the earlier ones as they are.
+/// Types that are added leave the extents and places of the earlier ones as they are.
 pub fn extents_stay()
-    ensures { ExtentsStay }
-{}
+    ensures extents { ExtentsStay }
+    ensures places { PlacesStay }
+{
+    leaves_add_up();
+    earlier_types_stay();
+}
 
 /// Later leaves stand at later places.
 pub fn places_rise()
