@@ -131,8 +131,15 @@ meets_elements types root count ty first len j of n formed s meets less at k lt 
           let leaves : (k + 1) * one ≡ n * one = ap (λ x. x * one) last in
           let sizes : (k + 1) * (e of).size ≡ n * (e of).size = ap (λ x. x * (e of).size) last in
           let there : begin + (k + 1) * one ≡ first + (j + 1) * leaves_of types ty = omega (arith, leaves, count_is, one_more j (leaves_of types ty)) in
-          omega (arith, ap (place_of ucf_layout types root) there, meets j less, one_more j (e ty).size, sizes, size,
-            element_begins ucf_layout types root count ty first len j is_layout formed s less)
+          omega (
+            arith,
+            ap (place_of ucf_layout types root) there,
+            meets j less,
+            one_more j (e ty).size,
+            sizes,
+            size,
+            element_begins ucf_layout types root count ty first len j is_layout formed s less,
+          )
     ] refl
 
 meets_member : (types : List Ty) (root count ty first len j i m : ℕ) (members : List ℕ) → AreCounted types → Stands ucf_layout types root count ty first len → Meets types root ty first len → j < len

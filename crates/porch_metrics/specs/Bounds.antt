@@ -35,3 +35,8 @@ abbrev pub ElementsAreAligned : Type 0
 ElementsAreAligned =
     (under : Layout) (types : List Ty) (ty k : ℕ) → IsLayout under → IsTypes types → ty < length types
     → place_of under types ty (k * leaves_of types ty) % (extent_of under types ty).align ≡ 0
+
+-- a multiple of an alignment that isn't before a place isn't before the place rounded up
+abbrev pub RoundsUpLeast : Type 0
+RoundsUpLeast =
+    (place align other : ℕ) → 0 < align → place ≤ other → other % align ≡ 0 → round_up place align ≤ other

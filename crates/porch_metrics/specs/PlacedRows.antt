@@ -19,7 +19,7 @@ pub data IsPlacedRow (under : Layout) (types : List Ty) (root count : ℕ) : ℕ
   placed_member : {ty first len place k member : ℕ} {members : List ℕ} (i : ℕ) → IsPlacedRow under types root count ty first len place → k < len
       → slice_get types ty ≡ Some (Struct members) → slice_get members i ≡ Some member
       → IsPlacedRow under types root count member (first + k * leaves_of types ty + leaves_together (leaves_of types) (take i members)) 1
-          (place + k * (extent_of under types ty).size + slice_index (member_places (extent_of under types) 0 members) i)
+      (place + k * (extent_of under types ty).size + slice_index (member_places (extent_of under types) 0 members) i)
 
 -- each row begins where its first leaf does
 abbrev pub RowsHavePlaces : Type 0

@@ -3,10 +3,16 @@
 ghost use Rattle.std.specs.Prelude.{◌≡◌, ◌<◌, ◌≤◌, ◌%◌, ℕ};
 ghost use Rattle.porch_layout.specs.Layouts.{IsLayout};
 ghost use Rattle.porch_metrics.specs.Extents.{round_up, ucf_layout};
-ghost use Rattle.porch_metrics.specs.Bounds.{ExtentsAreBounded, PlacesAreBounded, ElementsHavePlaces, ElementsAreAligned};
-ghost use Rattle.porch_metrics.specs.PlacedRows.{RowsHavePlaces, PlacesAreOfRows, LeavesStandInRows, ElementsStandInRows, LeavesStandInSubobjects, SubobjectsAreAligned, RootsAreAligned};
-ghost use Rattle.porch_metrics.specs.Apart.{PlacesRise, PartsLieInside, SubobjectsLieApart, SubobjectsArePacked};
-ghost use Rattle.porch_metrics.specs.AddingUp.{ExtentsAddUp, ArraysAddUp, PointersAreAlike, ExtentsStay, PlacesStay};
+ghost use Rattle.porch_metrics.specs.Bounds.{ExtentsAreBounded, PlacesAreBounded};
+ghost use Rattle.porch_metrics.specs.Bounds.{ElementsHavePlaces, ElementsAreAligned, RoundsUpLeast};
+ghost use Rattle.porch_metrics.specs.PlacedRows.{RowsHavePlaces, PlacesAreOfRows};
+ghost use Rattle.porch_metrics.specs.PlacedRows.{LeavesStandInRows, ElementsStandInRows};
+ghost use Rattle.porch_metrics.specs.PlacedRows.{LeavesStandInSubobjects};
+ghost use Rattle.porch_metrics.specs.PlacedRows.{SubobjectsAreAligned, RootsAreAligned};
+ghost use Rattle.porch_metrics.specs.Apart.{PlacesRise, PartsLieInside, SubobjectsLieApart};
+ghost use Rattle.porch_metrics.specs.Apart.{SubobjectsArePacked};
+ghost use Rattle.porch_metrics.specs.AddingUp.{ExtentsAddUp, ArraysAddUp, PointersAreAlike};
+ghost use Rattle.porch_metrics.specs.AddingUp.{ExtentsStay, PlacesStay};
 
 use porch_types::{earlier_types_stay, leaves_add_up};
 
@@ -110,5 +116,5 @@ pub fn subobjects_are_aligned()
 pub fn rounding_up_is_least()
     ensures multiple { (place align : ℕ) → 0 < align → round_up place align % align ≡ 0 }
     ensures after { (place align : ℕ) → 0 < align → place ≤ round_up place align }
-    ensures least { (place align other : ℕ) → 0 < align → place ≤ other → other % align ≡ 0 → round_up place align ≤ other }
+    ensures least { RoundsUpLeast }
 {}

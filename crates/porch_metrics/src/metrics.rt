@@ -36,7 +36,7 @@ impl Metrics {
     /// Measures each type. It keeps a copy of the types.
     pub fn new(alloc: Global, types: &Types, layout: &Layout) -> Result<Metrics, AllocError>
         requires { IsLayout layout.now }
-        ensures { IfOk result (λ metrics. metrics ≡ record { types = types.now; layout = layout.now }) }
+        ensures { IfOk result (λ m. m ≡ record { types = types.now; layout = layout.now }) }
     {
         let types = types.copy(alloc)?;
         let native = measure(alloc, &types, layout)?;

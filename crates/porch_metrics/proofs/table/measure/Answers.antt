@@ -31,7 +31,7 @@ loop-number-preserved c =
       count = omega (arith, ap length c.in_ok-push.ensures.items, length-append ms (next ∷ []), c.loop-number.invariant.count);
       first = subst (AreMeasured l (take (c.loop-number.number + 1) types)) (sym c.in_ok-push.ensures.items)
           (measured_put l types c.loop-number.number c.get-ty.result.now ms next (counted c.args.types.now c.len-len.ensures.types c.leaves_add_up.ensures.together c.leaves_add_up.ensures.some) c.loop-number.invariant.first c.loop-number.invariant.count
-          c.get-ty.ensures (c.in_ok-next.ensures.extent ∙ ap (λ es. type_extent l (extent_in (map extent es)) c.get-ty.result.now) d)
+          c.get-ty.ensures (c.in_ok-next.ensures.extent_is ∙ ap (λ es. type_extent l (extent_in (map extent es)) c.get-ty.result.now) d)
           (c.in_ok-next.ensures.places ∙ ap (λ es. places_of (extent_in (map extent es)) c.get-ty.result.now) d));
     }
 
