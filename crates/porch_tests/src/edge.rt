@@ -1,6 +1,6 @@
-//! What no clause says of the disk: that calls succeed, and what a stop leaves.
+//! What no clause says of disks: that calls succeed, and what a stop leaves.
 
-use crate::{DirDisk, Disk, Failed, FileName, MemDisk, Pick, Stop};
+use porch_edge::{DirDisk, Disk, Failed, FileName, MemDisk, Pick, Stop};
 use std::fs;
 use std::test::Fail;
 

@@ -1,5 +1,6 @@
-use crate::parser::parse;
-use crate::refusal::{Refusal, Rule, SourceFault};
+//! What no clause says of the parser: that it succeeds on programs with ample memory, worked refusals, and its limits.
+
+use porch_syntax::{Refusal, Rule, SourceFault, parse};
 use std::alloc::{AllocError, Global};
 
 /// What a text is answered with.

@@ -1,4 +1,6 @@
-use super::*;
+//! Which flat programs are valid, as worked examples.
+
+use porch_flat::{Command, Flat, Function, Operand, Plain, Valid, ValidFault};
 use porch_types::Types;
 use sqlite_items::Items;
 use std::alloc::Global;

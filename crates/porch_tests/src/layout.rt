@@ -1,4 +1,6 @@
-use super::*;
+//! What no clause says of layouts: the built-in ones in numbers, and files of layouts with one line changed.
+
+use porch_layout::{Layout, LayoutFault, LayoutKey, LayoutRule, built_in, layout_from};
 use std::test::Fail;
 
 const ODD: &str =

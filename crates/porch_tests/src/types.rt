@@ -1,4 +1,6 @@
-use super::*;
+//! What no clause says of types: that calls succeed, worked rows and shared ends, and the order of the refusals.
+
+use porch_types::{Members, Ty, TypeFault, Types};
 use std::alloc::Global;
 use std::process::Abort;
 use std::test::Fail;

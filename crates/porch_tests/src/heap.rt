@@ -1,6 +1,8 @@
+//! Worked places in a heap, and long runs of requests against a list in no parts.
+
 ghost use Rattle.porch_heap.specs.Blocks.{IsAlignment};
 
-use super::*;
+use porch_heap::{Block, Heap, HeapFull, NotABlock};
 use std::process::Abort;
 use std::test::Fail;
 

@@ -4,8 +4,8 @@ ghost use Rattle.std.specs.Prelude.{OnOk};
 ghost use Rattle.porch_edge.specs.Disk.{untold};
 ghost use Rattle.porch_output.specs.Outputs.{IsSpent, IsReady};
 
-use crate::{Output, Shown};
 use porch_edge::{Disk, Failed, FileName, MemDisk, MemSink, Pick, Stop};
+use porch_output::{Output, Shown};
 use std::alloc::{AllocError, Global};
 use std::test::Fail;
 

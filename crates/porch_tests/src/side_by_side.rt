@@ -4,11 +4,12 @@ ghost use Rattle.std.specs.Prelude.{◌≡◌, None};
 ghost use Rattle.porch_abstract.specs.Held.{Fits as FitsObjects, Continues};
 ghost use Rattle.porch_abstract.specs.declared.phase.AStep.TheVariants.{Went};
 ghost use Rattle.porch_machine.specs.Steps.{Fits as FitsBytes};
+ghost use Rattle.porch_layout.specs.Layouts.{IsLayout};
 
-use crate::compiled::{compiled, layout_of_exec};
 use porch_abstract::{AStep, Abstract};
 use porch_flat::{Command, Flat, Function, Operand, Valid};
-use porch_lower::sources_are_lowerable;
+use porch_layout::{Layout, built_in};
+use porch_lower::{lower, sources_are_lowerable};
 use porch_machine::{Machine, Step};
 use porch_syntax::parse;
 use porch_types::Types;
@@ -28,12 +29,25 @@ enum Walk {
     Long,
 }
 
+/// The layout of the byte machine, as `exec` has it.
+fn layout_of_bytes() -> Layout
+    ensures { IsLayout result }
+{
+    match built_in("le64") {
+        Some(layout) => layout,
+        None => unreachable!(),
+    }
+}
+
 /// The flat program of a text, if it has one.
 fn valid_of(alloc: Global, text: &[u8]) -> Option<Valid> {
     match parse(alloc, text) {
         Ok(tree) => {
             sources_are_lowerable();
-            compiled(alloc, &tree).ok()
+            match lower(alloc, &tree) {
+                Ok(plain) => Valid::new(alloc, plain.into_flat()).ok(),
+                Err(_) => None,
+            }
         }
         Err(_) => None,
     }
@@ -97,7 +111,7 @@ fn walked(alloc: Global, program: &Valid) -> Result<(Walk, Vec<u8>), AllocError>
         wide: true,
     };
     let mut objects = Abstract::new(alloc, program, widths)?;
-    let mut bytes = Machine::prepare(alloc, program, &layout_of_exec(), 4096, 16)?;
+    let mut bytes = Machine::prepare(alloc, program, &layout_of_bytes(), 4096, 16)?;
     let mut shown = Vec::new(alloc);
     let end = walk_both(program, &mut objects, &mut bytes, &mut shown)?;
     Ok((end, shown))
@@ -200,7 +214,7 @@ fn called(alloc: Global, count: usize, stack: u64) -> Result<Option<Step>, Alloc
     }
     match Valid::new(alloc, wide(alloc, count)?) {
         Ok(program) => {
-            let mut machine = Machine::prepare(alloc, &program, &layout_of_exec(), stack, 16)?;
+            let mut machine = Machine::prepare(alloc, &program, &layout_of_bytes(), stack, 16)?;
             Ok(Some(machine.step(&program)))
         }
         Err(_) => Ok(None),
@@ -237,18 +251,5 @@ fn a_frame_may_not_fit(rt: HostRuntime) -> Result<(), Fail> {
             "{count} ints in {stack} bytes"
         );
     }
-    Ok(())
-}
-
-#[test]
-fn a_full_stack_has_its_line(rt: HostRuntime) -> Result<(), Fail> {
-    let mut err = porch_edge::MemSink::new(rt.alloc(), Vec::new(rt.alloc()));
-    let full = crate::status::Status::StackFull {
-        asked: 4112,
-        left: 4096,
-    };
-    crate::top::close(b"", full, &mut err);
-    assert_eq!(rt; err.held(), b"stack full 4112 4096\n".as_slice());
-    assert_eq!(rt; crate::status::number_of_status(full), 4);
     Ok(())
 }

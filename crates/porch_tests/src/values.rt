@@ -1,5 +1,9 @@
-use super::*;
+//! Worked results of C's operators and conversions, for each set of widths.
+
 use porch_types::Kind;
+use porch_values::{
+    Act, Op, Widths, apply, complement, convert, greatest, is_operand, is_right, is_value, least,
+};
 use std::process::Abort;
 
 const NARROW: Widths = Widths {

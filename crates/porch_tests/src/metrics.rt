@@ -1,5 +1,7 @@
-use super::*;
+//! Worked places of leaves, under the built-in layouts and an odd one.
+
 use porch_layout::{Layout, built_in};
+use porch_metrics::Metrics;
 use porch_types::{Members, Ty, TypeFault, Types};
 use std::alloc::Global;
 use std::process::Abort;

@@ -4,9 +4,9 @@ ghost use Rattle.std.specs.Prelude.{IsTrue};
 ghost use Rattle.porch_edge.specs.Disk.{untold};
 ghost use Rattle.porch_store.specs.Stores.{IsBelow};
 
-use crate::{Ack, LoadFault, Newest, Store, load_file};
 use byteorder::{BigEndian, ByteOrder};
 use porch_edge::{DirDisk, Disk, Failed, FileName, MemDisk, Pick, Stop};
+use porch_store::{Ack, LoadFault, Newest, Store, load_file};
 use std::alloc::{AllocError, Global};
 use std::fs;
 use std::os::unix::fs::symlink;
