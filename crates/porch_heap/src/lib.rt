@@ -22,8 +22,6 @@ mod hint;
 mod laws;
 mod place;
 mod row;
-#[cfg(test)]
-mod tests;
 mod too_large;
 
 pub use block::{Block, HeapFull, NotABlock};

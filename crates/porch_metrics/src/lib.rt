@@ -14,6 +14,3 @@ pub use laws::{
     subobjects_are_aligned, subobjects_lie_apart, ucf_is_a_layout,
 };
 pub use metrics::Metrics;
-
-#[cfg(test)]
-mod tests;

@@ -14,6 +14,3 @@ pub use laws::{earlier_types_stay, kinds_come_first, leaves_add_up};
 pub use parts::{Part, Row};
 pub use shapes::{INT, Kind, Members, Ty};
 pub use types::{TypeFault, Types, subobjects_are_one};
-
-#[cfg(test)]
-mod tests;
