@@ -429,7 +429,7 @@ class Function:
 
 
 class Type:
-    """A struct, an enum or a trait of a source."""
+    """A struct, an enum, a trait, a constant or an alias of a source."""
 
     def __init__(self, file, name, kind, public, at):
         self.file, self.name, self.kind, self.public, self.at = file, name, kind, public, at
@@ -447,9 +447,9 @@ class Type:
 
 
 ITEM = re.compile(
-    r"\s*(?P<public>pub(?:\s*\([^)]*\))?\s+)?(?:(?P<ghostuse>ghost\s+use)\b|(?P<use>use)\b|(?P<ghost>ghost)\s+(?P<ghostname>\w+)|(?:default\s+|const\s+|unsafe\s+)*"
+    r"\s*(?P<public>pub(?:\s*\([^)]*\))?\s+)?(?:(?P<ghostuse>ghost\s+use)\b|(?P<use>use)\b|(?P<ghost>ghost)\s+(?P<ghostname>\w+)|(?:const\s+(?=fn|unsafe)|unsafe\s+)*"
     r"(?:(?P<fn>fn)\s+(?P<fnname>\w+)|(?P<impl>impl)\b|(?P<type>struct|enum|trait|union)\s+(?P<typename>\w+)|(?P<mod>mod)\s+(?P<modname>\w+)"
-    r"|(?P<other>const|static|type|extern)\b|(?P<macro>[\w:]+!)))"
+    r"|(?P<named>const|static|type)\s+(?:mut\s+)?(?P<name>\w+)|(?P<other>extern)\b|(?P<macro>[\w:]+!)))"
 )
 
 
@@ -527,6 +527,14 @@ class SourceFile:
             return self.impl(after, scope)
         if found.group("type"):
             return self.type(found, start, after, scope, public)
+        if found.group("named"):
+            made = Type(self, found.group("name"), found.group("named"), public, start)
+            stop = self.skip(after, end)
+            made.body = text[after:stop].partition("=")[0 if found.group("named") != "type" else 2]
+            # An associated item is none of the file's own.
+            if owner is None:
+                self.types[made.name] = made
+            return stop
         if found.group("mod"):
             if public:
                 self.public_modules.add(found.group("modname"))

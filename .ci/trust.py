@@ -114,6 +114,8 @@ def cited_by_type(one, kept):
     for place, impl in models:
         names = {"Value", "view", "invariant"} if kept else {"Value"}
         found.update(cited_by_ghosts(place, impl, names, set()))
+    if one.kind in ("const", "static", "type"):
+        return types_in(file, one.body)
     if one.kind == "enum":
         found.update(types_in(file, re.sub(r"#\[[^\]]*\]", "", one.body)))
     elif kept or not models:
@@ -259,8 +261,8 @@ the names in the clauses of a call and in its signature, and goes on with the na
 there are no new ones. So whoever has read the definitions of a list knows everything that the clauses say. A proof can't
 be wrong without the prover being wrong; a definition can, if it says something else than its reader thinks.
 
-A name in `src/` is a type or a trait of the code: its variants or fields, or what a contract sees in their place (the
-`Value` of its `impl Model`), and of a trait its ghost members and the contracts of its methods. A name in `specs/` is a definition. Crates come lowest
+A name in `src/` is a type, a trait or a constant of the code: its variants or fields, or what a contract sees in their
+place (the `Value` of its `impl Model`), and of a trait its ghost members and the contracts of its methods. A name in `specs/` is a definition. Crates come lowest
 first, and the files of a crate in the order to read them in.
 """
 
