@@ -609,7 +609,7 @@ class SourceFile:
         while text[opening] != "{":
             opening += 1
         stop = closing(text, opening)
-        head = re.sub(r"\bwhere\b.*", "", " ".join(text[after:opening].split()))
+        head, _, where = " ".join(text[after:opening].split()).partition(" where ")
         generics = ""
         if head.startswith("<"):
             depth = 0
@@ -623,7 +623,7 @@ class SourceFile:
             trait, of = None, head
         name = re.match(r"&?\s*(?:'\w+\s+)?(?:mut\s+)?(?:\w+::)*(\w+)", of).group(1)
         inner = Scope(scope)
-        holder = Impl(name, re.match(r"(?:\w+::)*(\w+)", trait).group(1) if trait else None, generics)
+        holder = Impl(name, re.match(r"(?:\w+::)*(\w+)", trait).group(1) if trait else None, f"{generics} {where}")
         self.impls.append(holder)
         self.items(opening + 1, stop, holder, holder.trait, inner)
         return stop + 1

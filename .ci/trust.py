@@ -104,12 +104,13 @@ def cited_by_type(one, kept):
     fields behind a view: they say how a value is kept, and not which value a contract sees."""
     file = one.file
     if one.kind == "trait":
-        found = cited_by_ghosts(file, one, None, set())
+        found = types_in(file, one.bounds)
+        found.update(cited_by_ghosts(file, one, None, set()))
         for function in file.functions:
             if function.type is one:
                 found.update(cited_by_function(function))
         return found
-    found = {}
+    found = types_in(file, one.bounds)
     models = [(place, impl) for place, impl in impls_of(one) if impl.trait == "Model"]
     for place, impl in models:
         names = {"Value", "view", "invariant"} if kept else {"Value"}
@@ -152,16 +153,46 @@ def closure(starts, kept):
 # The public calls
 
 
+def public_files(crate, module):
+    """The root of a crate, and the files of its public modules."""
+    file = source_files(crate).get(module) if module else root_of(crate)
+    if file:
+        yield file
+        for name in sorted(file.public_modules):
+            yield from public_files(crate, f"{module}.{name}" if module else name)
+
+
+def exported_item(file, path):
+    """What a `pub use` of a file names."""
+    first = path.split("::")[0]
+    if first == "crate" or first in crate_names():
+        return rust_item(file.crate, path)
+    if first in ("self", "super"):
+        raise Unresolved(f"{file.path.relative_to(TOP)}: say `crate::` in: pub use {path}")
+    around = "" if file is root_of(file.crate) else file.module.replace(".", "::") + "::"
+    return rust_item(file.crate, f"crate::{around}{path}")
+
+
+def all_of(crate, path):
+    file = source_files(crate).get(path.removeprefix("crate::").removesuffix("::*").replace("::", "."))
+    if file is None:
+        raise Unresolved(f"{crate}: no module stands at: pub use {path}")
+    public = [one for one in file.types.values() if one.public]
+    return public + [one for one in file.functions if one.public and not one.owner]
+
+
 def exported(crate):
     """The public types, traits and functions of a crate. Of a program they are those that `main` uses."""
     root = root_of(crate)
     if root.module == "main":
         items = [rust_item(crate, path) for path in root.uses.values() if path.startswith("crate::")]
     else:
-        items = [rust_item(crate, "crate::" + path.removeprefix("crate::")) for path in root.exports.values()]
-        for module in [root] + [source_files(crate)[name] for name in sorted(root.public_modules)]:
-            items += [one for one in module.types.values() if one.public]
-            items += [one for one in module.functions if one.public and not one.owner]
+        items = []
+        for file in public_files(crate, ""):
+            for name, path in file.exports.items():
+                items += all_of(crate, path) if name == "*" else [exported_item(file, path)]
+            items += [one for one in file.types.values() if one.public]
+            items += [one for one in file.functions if one.public and not one.owner]
     return list({id(item): item for item in items if item and item.file.crate == crate}.values())
 
 
@@ -200,10 +231,17 @@ def starts_of(crate):
 
 
 def top_call():
-    for function in source_files("porch_cli")["top"].functions:
-        if function.name == "porch" and not function.owner:
-            return function
-    raise Unresolved("crates/porch_cli/src/top.rt has no function porch")
+    """The function `porch`, which stands in one crate alone."""
+    found = [
+        function
+        for crate in crate_names()
+        for file in source_files(crate).values()
+        for function in file.functions
+        if function.name == "porch" and not function.owner
+    ]
+    if len(found) != 1:
+        raise Unresolved(f"{len(found)} functions are named porch")
+    return found[0]
 
 
 # ---------------------------------------------------------------------------------------------------------------------
