@@ -57,12 +57,14 @@ def column_faults():
     for crate in crate_names():
         for file in source_files(crate).values():
             for function in file.functions:
-                lines = function.contract().split("\n")
-                first = file.text.rfind("\n", 0, function.clauses[0].at) + 1 if function.clauses else 0
+                if not function.clauses:
+                    continue
+                first = file.text.rfind("\n", 0, function.clauses[0].at) + 1
                 number = file.text.count("\n", 0, first) + 1
-                for place, line in enumerate(file.text[first : function.contract_end].split("\n") if lines != [""] else []):
-                    if len(line) > COLUMNS:
-                        yield f"{file.path.relative_to(TOP)}:{number + place}: {function.title}: {len(line)} columns"
+                for line in file.text[first : function.contract_end].split("\n"):
+                    if len(line) > COLUMNS and not line.lstrip().startswith("//"):
+                        yield f"{file.path.relative_to(TOP)}:{number}: {function.title}: {len(line)} columns"
+                    number += 1
 
 
 def main(arguments):

@@ -5,13 +5,14 @@
   - docs/PORCH.md: the contract of the top call stands there word for word;
   - docs/WHERE.md, docs/LIMITS.md: each definition, function and constant stands in the file that is named.
 
-  promises.py --copy  writes the clauses of the top call into docs/PORCH.md, whose sentences stay
+  promises.py --copy     writes the clauses of the top call into docs/PORCH.md, whose sentences stay
+  promises.py --unnamed  lists the public calls, with their clauses, that no row of docs/PROMISES.md names
 """
 import re
 import sys
 
-from sources import TOP, Unresolved, SourceFile, SpecFile, bare
-from trust import top_call
+from sources import TOP, SourceFile, SpecFile, Unresolved, bare, crate_names
+from trust import public_calls, top_call
 
 DOCS = TOP / "docs"
 FILES = {}
@@ -82,6 +83,17 @@ def promise_faults():
                 yield f"{path}: {title} has no clause {name}"
     if not count:
         yield "it has no row"
+
+
+def print_unnamed():
+    named = {row.group(1, 2) for row in map(PROMISE.match, rows_of("PROMISES.md")) if row}
+    for crate in crate_names():
+        for function in public_calls(crate)[0]:
+            path = str(function.file.path.relative_to(TOP))
+            clauses = [f"`{clause.name or UNNAMED}`" for clause in function.clauses if clause.kind == "ensures"]
+            # What an impl of a trait says stands in the row of the trait.
+            if clauses and function.trait in (None, function.owner) and (path, function.title) not in named:
+                print(f"| | `{path}` | `{function.title}` | {', '.join(clauses)} |")
 
 
 # ---------------------------------------------------------------------------------------------------------------------
@@ -192,6 +204,9 @@ CHECKS = {
 def main(arguments):
     if arguments == ["--copy"]:
         return copy_contract()
+    if arguments == ["--unnamed"]:
+        print_unnamed()
+        return 0
     if arguments:
         print(__doc__.strip())
         return 2
