@@ -109,9 +109,9 @@ member_down l types ty leaf i m t members part is formed at h one =
     ∙ ap (λ x. get_or places i 0 + place_within (suc m) l types m (leaf - x)) one.begins
 
 -- a leaf of a member stands from the member's place on
-pub member_place : (l : Layout) (types : List Ty) (ty i m j : ℕ) (members : List ℕ) → IsLayout l → AreCounted types → slice_get types ty ≡ Some (Struct members) → slice_get members i ≡ Some m → j < leaves_of types m
+pub member_leaf_place : (l : Layout) (types : List Ty) (ty i m j : ℕ) (members : List ℕ) → IsLayout l → AreCounted types → slice_get types ty ≡ Some (Struct members) → slice_get members i ≡ Some m → j < leaves_of types m
     → place_of l types ty (leaves_together (leaves_of types) (take i members) + j) ≡ get_or (member_places (extent_of l types) 0 members) i 0 + place_of l types m j
-member_place l types ty i m j members is formed at at_i lt =
+member_leaf_place l types ty i m j members is formed at at_i lt =
     let f = leaves_of types in
     let t = leaves_together f (take i members) in
     let count : leaves_of types ty ≡ leaves_together f members = formed.together ty (Struct members) at in
@@ -203,7 +203,7 @@ member_leaf l types root count ty first len k i m j members is formed s lt at at
     let e : begin + t + j ≡ begin + (t + j) = omega arith in
     let a : place_of l types root (begin + (t + j)) ≡ place_of l types root first + k * (extent_of l types ty).size + place_of l types ty (t + j) =
     element_leaf l types root count ty first len k (t + j) formed s lt (omega (arith, less, together_inside f members i m at_i, count_is)) in
-    let b = member_place l types ty i m j members is formed at at_i less in
+    let b = member_leaf_place l types ty i m j members is formed at at_i less in
     ap (place_of l types root) e ∙ omega (arith, a, b)
 
 -- where a member of an element of a row begins
@@ -265,3 +265,12 @@ subobject_leaf l types root count place ty leaf is formed known sub lt =
     let begins = element_begins l types root count ty row.first row.len k is formed s h.element.1 in
     let here = element_leaf l types root count ty row.first row.len k leaf formed s h.element.1 lt in
     omega (arith, begins, here, ap (place_of l types root) at, ap (λ x. place_of l types root (x + leaf)) at)
+
+-- where a member begins
+pub member_first : (l : Layout) (types : List Ty) (ty i m : ℕ) (members : List ℕ) → IsLayout l → AreCounted types → slice_get types ty ≡ Some (Struct members) → slice_get members i ≡ Some m
+    → place_of l types ty (leaves_together (leaves_of types) (take i members)) ≡ get_or (member_places (extent_of l types) 0 members) i 0
+member_first l types ty i m members is formed at at_i =
+    let t = leaves_together (leaves_of types) (take i members) in
+    let known : m < length types = omega (arith, member_known types ty i m members formed at at_i, slice_get_within types ty (Struct members) at) in
+    let z : t + 0 ≡ t = omega arith in
+    omega (arith, ap (place_of l types ty) z, member_leaf_place l types ty i m 0 members is formed at at_i (formed.some m known), zero_place l types m is formed known)

@@ -7,7 +7,7 @@ ghost use Rattle.porch_metrics.specs.Bounds.{ExtentsAreBounded, PlacesAreBounded
 ghost use Rattle.porch_metrics.specs.Bounds.{ElementsHavePlaces, ElementsAreAligned, RoundsUpLeast};
 ghost use Rattle.porch_metrics.specs.PlacedRows.{RowsHavePlaces, PlacesAreOfRows};
 ghost use Rattle.porch_metrics.specs.PlacedRows.{LeavesStandInRows, ElementsStandInRows};
-ghost use Rattle.porch_metrics.specs.PlacedRows.{LeavesStandInSubobjects};
+ghost use Rattle.porch_metrics.specs.PlacedRows.{LeavesStandInSubobjects, MembersHavePlaces};
 ghost use Rattle.porch_metrics.specs.PlacedRows.{SubobjectsAreAligned, RootsAreAligned};
 ghost use Rattle.porch_metrics.specs.Apart.{PlacesRise, PartsLieInside, SubobjectsLieApart};
 ghost use Rattle.porch_metrics.specs.Apart.{SubobjectsArePacked};
@@ -100,6 +100,7 @@ pub fn places_add_up()
     ensures leaves { LeavesStandInRows }
     ensures elements { ElementsStandInRows }
     ensures subobjects { LeavesStandInSubobjects }
+    ensures members { MembersHavePlaces }
 {
     leaves_add_up();
 }
