@@ -1,17 +1,17 @@
 -- A row begins where its first leaf does, and its leaves stand from there as in the type alone.
-use Rattle.std.proofs.Common.{◌≡◌, ◌⊎◌, inl, inr, ℕ, zero, suc, ◌+◌, ◌-◌, ◌*◌, ◌/◌, ◌%◌, ◌<◌, ◌≤◌, nat_lt, true, false, List, [], ◌∷◌, length, get_or, slice_get, Option, Some, None, refl, arith, ap, sym, ◌∙◌, subst, take}
-use Rattle.std.proofs.lemmas.Bool.{ltb-true, ltb-false, lt-ltb}
+use Rattle.std.proofs.Common.{◌≡◌, ℕ, zero, suc, ◌+◌, ◌-◌, ◌*◌, ◌/◌, ◌%◌, ◌<◌, ◌≤◌, List, [], ◌∷◌, length, get_or, slice_get, Some, refl, arith, ap, sym, ◌∙◌, subst, take}
+use Rattle.std.proofs.lemmas.Bool.{lt-ltb}
 use Rattle.std.proofs.lemmas.Option.{slice_get_within, get_or_from_slice_get}
 use Rattle.std.proofs.lemmas.Nat.{div-mul-add, mod-mul-add}
 use Rattle.std.proofs.Math.Nat.{add-mul-div_right, mul-add-mod_self_right, mod-eq-sub-div-mul, div-lt_iff_lt-mul, mul-le-mul_right}
 use Rattle.porch_types.specs.declared.shapes.Ty.{Ty}
 use Rattle.porch_types.specs.declared.shapes.Ty.TheVariants.{Array, Struct}
 use Rattle.porch_types.specs.declared.parts.Part.{Part}
-use Rattle.porch_types.specs.Leaves.{leaves_of, leaves_together, IsFormed}
-use Rattle.porch_types.specs.Rows.{IsRow, elements_of_root, elements_of_array, member_of_struct, IsSubobject, part_at, part_of, element_at, member_at}
+use Rattle.porch_types.specs.Leaves.{leaves_of, leaves_together}
+use Rattle.porch_types.specs.Rows.{IsRow, elements_of_root, elements_of_array, member_of_struct, IsSubobject, part_at, part_of, element_at}
 use Rattle.porch_layout.specs.declared.layout.Layout.{Layout}
-use Rattle.porch_layout.specs.Layouts.{IsAlignment, IsLayout}
-use Rattle.porch_metrics.specs.Extents.{Extent, extent_of, member_places}
+use Rattle.porch_layout.specs.Layouts.{IsLayout}
+use Rattle.porch_metrics.specs.Extents.{extent_of, member_places}
 use Rattle.porch_metrics.specs.Places.{part_place, place_of, place_within}
 use Rattle.porch_metrics.specs.PlacedRows.{IsPlacedRow, placed_root, placed_elements, placed_member, IsRowAtPlace}
 use Rattle.porch_metrics.specs.inside.Tables.{AreCounted}

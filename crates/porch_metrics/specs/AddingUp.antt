@@ -4,7 +4,7 @@ use Rattle.porch_types.specs.declared.shapes.Ty.{Ty}
 use Rattle.porch_types.specs.declared.shapes.Ty.TheVariants.{Pointer, Array}
 use Rattle.porch_types.specs.Leaves.{IsTypes}
 use Rattle.porch_layout.specs.declared.layout.Layout.{Layout}
-use Rattle.porch_metrics.specs.Extents.{Extent, extent_of, type_extent}
+use Rattle.porch_metrics.specs.Extents.{extent_of, type_extent}
 use Rattle.porch_metrics.specs.Places.{place_of}
 
 -- a type has the extent that the extents of its parts give it

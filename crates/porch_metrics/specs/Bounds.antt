@@ -4,7 +4,7 @@ use Rattle.porch_types.specs.declared.shapes.Ty.{Ty}
 use Rattle.porch_types.specs.Leaves.{IsTypes, leaves_of}
 use Rattle.porch_layout.specs.declared.layout.Layout.{Layout}
 use Rattle.porch_layout.specs.Layouts.{IsAlignment, IsLayout}
-use Rattle.porch_metrics.specs.Extents.{Extent, extent_of, round_up, ucf_layout}
+use Rattle.porch_metrics.specs.Extents.{Extent, extent_of, round_up}
 use Rattle.porch_metrics.specs.Places.{place_of}
 
 -- an extent of so many leaves: at least one byte, at most eight for each leaf, in whole alignments
