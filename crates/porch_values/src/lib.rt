@@ -6,6 +6,7 @@
 #![tactic(auto)]
 
 mod acts;
+mod laws;
 mod ranges;
 mod reductions;
 mod results;
@@ -14,6 +15,7 @@ mod tests;
 mod widths;
 
 pub use acts::{Act, Op};
+pub use laws::{fewer_widths_agree, one_width_is_never_narrow, values_convert_to_themselves};
 pub use ranges::{greatest, is_operand, is_right, is_value, least};
 pub use results::{apply, complement, convert};
 pub use widths::Widths;

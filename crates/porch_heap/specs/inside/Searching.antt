@@ -1,5 +1,5 @@
--- Where among the blocks a place is. No public clause cites it.
-use Rattle.std.specs.Prelude.{ℕ, ◌+◌, ◌-◌, ◌<◌, ◌≤◌, length, List, [], ◌∷◌, max, take, drop}
+-- Where among the blocks a place is.
+use Rattle.std.specs.Prelude.{ℕ, ◌+◌, ◌<◌, ◌≤◌, length, List, [], ◌∷◌, take, drop}
 use Rattle.porch_heap.specs.declared.block.Block.{Block}
 use Rattle.porch_heap.specs.Blocks.{HeapState, Each}
 
@@ -24,8 +24,3 @@ pub record Divides (blocks : List Block) (index at bytes : ℕ) : Type 0 where
   pub within : index ≤ length blocks
   pub before : Each (EndsBefore at) (take index blocks)
   pub behind : Head (BeginsBehind (at + bytes)) (drop index blocks)
-
--- the longest row of bytes from an address to an end that lie in no block and aren't behind one
-abbrev pub longest : ℕ → ℕ → List Block → ℕ
-longest from end [] = end - from
-longest from end (b ∷ bs) = max (b.at - from) (longest (b.at + b.bytes + 1) end bs)

@@ -1,8 +1,9 @@
--- Where a new block goes among the blocks of chunks. No public clause cites it.
+-- Where a new block goes among the blocks of chunks.
 use Rattle.std.specs.Prelude.{ℕ, ◌<◌, ◌++◌, length, take, List, Option, None, Some}
 use Rattle.porch_heap.specs.declared.block.Block.{Block}
 use Rattle.porch_heap.specs.declared.chunks.Seat.{Seat}
-use Rattle.porch_heap.specs.Chunks.{ChunkState, blocks_of, blocks_at, rank}
+use Rattle.porch_heap.specs.Chunks.{ChunkState, blocks_of}
+use Rattle.porch_heap.specs.inside.ChunkRow.{blocks_at, rank}
 
 -- a block stands there
 abbrev pub IsSeat : List ChunkState → Seat → Type 0

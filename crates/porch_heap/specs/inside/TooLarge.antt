@@ -1,9 +1,10 @@
--- What a chunk keeps beside its blocks. No public clause cites it.
+-- What a chunk keeps beside its blocks.
 use Rattle.std.specs.Prelude.{◌≡◌, ℕ, ◌+◌, ◌<◌, ◌≤◌, ◌^◌, length, List}
 use Rattle.porch_heap.specs.declared.block.Block.{Block}
 use Rattle.porch_heap.specs.declared.too_large.TooLarge.{TooLarge}
 use Rattle.porch_heap.specs.Blocks.{Stand}
-use Rattle.porch_heap.specs.Chunks.{ChunkState, NoRoom, Linked, blocks_of}
+use Rattle.porch_heap.specs.Chunks.{ChunkState, blocks_of}
+use Rattle.porch_heap.specs.inside.ChunkRow.{NoRoom, Linked}
 
 -- by alignment, the bytes for which there is no room before any block
 pub record AreTooLarge (from : ℕ) (blocks : List Block) (too_large : TooLarge) : Type 0 where

@@ -1,4 +1,4 @@
--- What a heap keeps beside its blocks to find a place soon. No public clause cites it.
+-- What a heap keeps beside its blocks to find a place soon.
 use Rattle.std.specs.Prelude.{ℕ, ◌+◌, ◌<◌, ◌≤◌, ◌&&◌, nat_le, nat_lt, min, List, [], ◌∷◌, if◌then◌else◌}
 use Rattle.porch_heap.specs.declared.hint.Hint.{Hint}
 use Rattle.porch_heap.specs.Blocks.{HeapState, IsHeap, IsAlignment, IsGap}
