@@ -7,10 +7,12 @@
 //! which tells nothing.
 #![tactic(auto)]
 
+mod answer;
 mod contents;
 mod disk;
 pub mod failed;
 mod folder;
+mod laws;
 mod memory_calls;
 mod memory_disk;
 mod memory_picks;
@@ -26,6 +28,7 @@ mod tests;
 pub use disk::{Disk, FileName};
 pub use failed::Failed;
 pub use folder::DirDisk;
+pub use laws::{changes_join, looks_join, runs_begin, runs_go_on, runs_join};
 pub use memory_disk::MemDisk;
 pub use memory_plan::{Pick, Stop};
 pub use memory_sink::MemSink;

@@ -1,7 +1,7 @@
-// The calls that a disk in memory keeps, and what they do to its files.
+//! The calls that a disk in memory keeps, and what they do to its files.
 ghost use Rattle.std.specs.Prelude.{◌≡◌, ◌≤◌, ◌<◌, ◌+◌, ◌-◌, ◌++◌, ◌^◌, [], ◌∷◌, length, take, drop, replicate, min, IfOk, OnOk, OnErr, vec_len, vec_capacity};
 ghost use Rattle.porch_edge.specs.Files.{file_of, with_file, written};
-ghost use Rattle.porch_edge.specs.Calls.{Logged, Noted};
+ghost use Rattle.porch_edge.specs.inside.Kept.{Logged, Noted};
 
 use crate::FileName;
 use crate::contents::Contents;
@@ -40,7 +40,7 @@ fn append(calls: &mut Vec<Call>, call: Call)
 }
 
 /// Keeps a call that changes no byte. Want of memory leaves everything as it was.
-pub fn note(
+pub(crate) fn note(
     alloc: Global,
     calls: &mut Vec<Call>,
     file: FileName,
@@ -127,7 +127,7 @@ fn rewritten(alloc: Global, old: &[u8], at: usize, bytes: &[u8]) -> Result<Vec<u
 }
 
 /// Writes at a place of a file. Want of memory leaves everything as it was.
-pub fn write(
+pub(crate) fn write(
     alloc: Global,
     files: &mut Contents,
     calls: &mut Vec<Call>,
@@ -155,7 +155,7 @@ pub fn write(
 }
 
 /// Cuts a file that is longer to a length. Want of memory leaves everything as it was.
-pub fn cut(
+pub(crate) fn cut(
     alloc: Global,
     files: &mut Contents,
     calls: &mut Vec<Call>,
@@ -173,7 +173,7 @@ pub fn cut(
 }
 
 /// Gives a file other bytes, synced. Want of memory leaves everything as it was.
-pub fn put(
+pub(crate) fn put(
     alloc: Global,
     files: &mut Contents,
     calls: &mut Vec<Call>,

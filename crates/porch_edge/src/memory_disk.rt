@@ -1,8 +1,8 @@
-// A disk in memory, for tests and drills. Its calls can be made to fail, and it can be stopped in one of them.
+//! A disk in memory, for tests and drills. Its calls can be made to fail, and it can be stopped in one of them.
 ghost use Rattle.std.specs.Prelude.{◌≡◌, ◌≤◌, ◌-◌, ◌++◌, length, take, drop, min, reverse, OnOk, OnErr};
 ghost use Rattle.porch_edge.specs.Causes.{Rose, HasCause};
-ghost use Rattle.porch_edge.specs.Calls.{Kept};
-ghost use Rattle.porch_edge.specs.Props.{kept_prop};
+ghost use Rattle.porch_edge.specs.inside.Kept.{Kept};
+ghost use Rattle.porch_edge.specs.inside.Props.{kept_prop};
 
 use crate::contents::Contents;
 use crate::memory_calls::{self, Call, Change};
@@ -169,7 +169,7 @@ impl Disk for MemDisk {
     ghost use Rattle.porch_edge.specs.Files.{file_of, with_file, written};
     ghost use Rattle.porch_edge.specs.Disk.{LenStep, ReadStep, WriteStep, CutStep, SyncStep};
     ghost use Rattle.porch_edge.specs.Memory.{mem_state, files_held, Obeys};
-    ghost use Rattle.porch_edge.specs.Laws.{reads_leave, counts_now, only_now};
+    ghost use Rattle.porch_edge.specs.inside.MemoryLaws.{reads_leave, counts_now, only_now};
 
     ghost state = { mem_state };
 

@@ -1,10 +1,11 @@
-// What a crash leaves of the files of a disk in memory.
+//! What a crash leaves of the files of a disk in memory.
 ghost use Rattle.std.specs.Prelude.{◌≡◌, ◌∷◌, ◌<◌, List, length, IsTrue, false, reverse};
 ghost use Rattle.porch_edge.specs.declared.memory_calls.Call.{Call};
 ghost use Rattle.porch_edge.specs.Calls.{index_of};
 ghost use Rattle.porch_edge.specs.Files.{file_of, with_file};
 ghost use Rattle.porch_edge.specs.declared.disk.FileName.{FileName};
-ghost use Rattle.porch_edge.specs.Picks.{is_between, is_pending, painted, synced_bytes, left_to_undo, revived};
+ghost use Rattle.porch_edge.specs.Picks.{is_between, is_pending, painted, synced_bytes, revived};
+ghost use Rattle.porch_edge.specs.inside.Undo.{left_to_undo};
 
 use crate::FileName;
 use crate::contents::Contents;
@@ -125,7 +126,7 @@ fn paint_files(alloc: Global, files: &mut Contents, calls: &[Call], byte: u8)
 }
 
 /// Makes of the files what a crash leaves by this pick, or leaves them where there was none. It takes no memory.
-pub fn crash(alloc: Global, files: &mut Contents, calls: Vec<Call>, pick: Option<Pick>)
+pub(crate) fn crash(alloc: Global, files: &mut Contents, calls: Vec<Call>, pick: Option<Pick>)
     ensures { (file : FileName) → file_of file files.new ≡ revived pick file (file_of file files.old) (reverse calls.items) }
 {
     match pick {

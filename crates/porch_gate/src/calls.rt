@@ -1,4 +1,4 @@
-// The calls on a gate. None makes more than three calls on the disk.
+//! The calls on a gate. None makes more than three calls on the disk.
 ghost use Rattle.std.specs.Prelude.{◌≡◌, ◌<◌, ◌≤◌, ◌↔◌, length, IsTrue, IfOk, OnOk};
 ghost use Rattle.porch_edge.specs.Causes.{HasCause};
 ghost use Rattle.porch_edge.specs.Files.{file_of};

@@ -1,4 +1,4 @@
-// The output file of a disk.
+//! The output file of a disk.
 ghost use Rattle.std.specs.Prelude.{◌≢◌, ◌<◌, ◌≤◌, ◌^◌, length, true};
 
 use crate::buffer::take_front;

@@ -1,4 +1,4 @@
-// The buffer in front of a sink.
+//! The buffer in front of a sink.
 ghost use Rattle.std.specs.Prelude.{◌≢◌, ◌<◌, length, true};
 
 use crate::buffer::take_front;

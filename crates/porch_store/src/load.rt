@@ -1,4 +1,4 @@
-// Reading a file whole.
+//! Reading a file whole.
 ghost use Rattle.std.specs.Prelude.{◌≡◌, ◌+◌, ◌≤◌, length, take, IfOk, IsErrOf};
 ghost use Rattle.porch_edge.specs.Causes.{HasCause, Rose};
 ghost use Rattle.porch_edge.specs.Disk.{WhereTold, OnlyLooks};

@@ -1,9 +1,9 @@
-// The number of a checkpoint file.
+//! The number of a checkpoint file.
 ghost use Rattle.std.specs.Prelude.{◌≡◌, IfOk};
 ghost use Rattle.porch_edge.specs.Causes.{HasCause};
 ghost use Rattle.porch_edge.specs.Disk.{WhereTold, OnlyLooks};
 ghost use Rattle.porch_edge.specs.Files.{file_of};
-ghost use Rattle.porch_store.specs.Checkpoints.{HasNumber};
+ghost use Rattle.porch_store.specs.inside.Numbers.{HasNumber};
 
 use byteorder::{BigEndian, ByteOrder};
 use porch_edge::{Disk, Failed, FileName};

@@ -1,9 +1,10 @@
-// The two checkpoint files of a disk, of which the newest counts.
+//! The two checkpoint files of a disk, of which the newest counts.
 ghost use Rattle.std.specs.Prelude.{◌≡◌, ◌≢◌, ◌≤◌, ◌↔◌, ◌∷◌, length, IsTrue, IfOk, OnOk, OnErr};
 ghost use Rattle.porch_edge.specs.Causes.{HasCause};
 ghost use Rattle.porch_edge.specs.Files.{Files};
 ghost use Rattle.porch_edge.specs.Disk.{WhereTold, BothTell, OnlyLooks, TouchesOnly, LeavesOnly, HasNow};
-ghost use Rattle.porch_store.specs.Checkpoints.{HasNumber, IsNewest, number_of};
+ghost use Rattle.porch_store.specs.Checkpoints.{IsNewest, number_of};
+ghost use Rattle.porch_store.specs.inside.Numbers.{HasNumber};
 ghost use Rattle.porch_store.specs.Stores.{newest_known, number_known, newest_number, IsSpent, IsReady, older_of, IsBelow, OldClosedOrWhole, KeepsNewest, IsNew};
 
 use crate::number::{checkpoint, open_number};
