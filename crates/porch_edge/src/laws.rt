@@ -40,17 +40,20 @@ pub fn runs_begin<D: Disk>()
 pub fn runs_go_on<D: Disk>()
     ensures read { (s t u : D) (file : FileName) (test : List ℕ → List ℕ → Bool)
         (at : ℕ) (before after : List ℕ) (r : Result ℕ Failed)
-        → TouchesPassing (D.state s) (D.state t) file test → ReadStep (D.state t) (D.state u) file at before after r
+        → TouchesPassing (D.state s) (D.state t) file test
+        → ReadStep (D.state t) (D.state u) file at before after r
         → TouchesPassing (D.state s) (D.state u) file test }
     ensures write { (s t u : D) (file : FileName) (test : List ℕ → List ℕ → Bool)
         (at : ℕ) (bytes : List ℕ) (r : Result (Unit {0}) Failed)
         → ((now : List ℕ) → KeepsPassing test (TornWrite now at bytes))
-        → TouchesPassing (D.state s) (D.state t) file test → WriteStep (D.state t) (D.state u) file at bytes r
+        → TouchesPassing (D.state s) (D.state t) file test
+        → WriteStep (D.state t) (D.state u) file at bytes r
         → TouchesPassing (D.state s) (D.state u) file test }
     ensures cut { (s t u : D) (file : FileName) (test : List ℕ → List ℕ → Bool)
         (len : ℕ) (r : Result (Unit {0}) Failed)
         → KeepsPassing test (Shortened len) → KeepsPassing test (Marred len)
-        → TouchesPassing (D.state s) (D.state t) file test → CutStep (D.state t) (D.state u) file len r
+        → TouchesPassing (D.state s) (D.state t) file test
+        → CutStep (D.state t) (D.state u) file len r
         → TouchesPassing (D.state s) (D.state u) file test }
     ensures sync { (s t u : D) (file : FileName) (test : List ℕ → List ℕ → Bool)
         (r : Result (Unit {0}) Failed)
@@ -62,6 +65,7 @@ pub fn runs_go_on<D: Disk>()
 pub fn runs_join<D: Disk>()
     ensures { (s t u : D) (file : FileName) (test : List ℕ → List ℕ → Bool) (holds : List ℕ → Bool)
         → ((old x : List ℕ) → IsTrue (holds x) → IsTrue (test old x))
-        → TouchesPassing (D.state s) (D.state t) file test → TouchesPassing (D.state t) (D.state u) file (λ _ x. holds x)
+        → TouchesPassing (D.state s) (D.state t) file test
+        → TouchesPassing (D.state t) (D.state u) file (λ _ x. holds x)
         → TouchesPassing (D.state s) (D.state u) file test }
 {}

@@ -70,7 +70,8 @@ fn exchange(
     change: Change,
     next: Vec<u8>,
 ) -> Result<(), AllocError>
-    ensures ok { OnOk result (Logged files.old files.new calls.old.items calls.new.items file next.items change) }
+    ensures ok { OnOk result
+        (Logged files.old files.new calls.old.items calls.new.items file next.items change) }
     ensures files_err { OnErr result (files.new ≡ files.old) }
     ensures calls_err { OnErr result (calls.new.items ≡ calls.old.items) }
 {
@@ -91,7 +92,8 @@ fn exchange(
 fn over(alloc: Global, old: &[u8], at: usize, bytes: &[u8]) -> Result<Vec<u8>, AllocError>
     requires inside { at ≤ length old.now }
     requires short { at + length bytes.now ≤ 2 ^ 62 }
-    ensures { IfOk result (λ v. v.items ≡ take at old.now ++ bytes.now ++ drop (at + length bytes.now) old.now) }
+    ensures { IfOk result
+        (λ v. v.items ≡ take at old.now ++ bytes.now ++ drop (at + length bytes.now) old.now) }
 {
     let mut next = old[..at].to_vec(alloc)?;
     next.extend_from_slice(bytes)?;
@@ -105,7 +107,8 @@ fn over(alloc: Global, old: &[u8], at: usize, bytes: &[u8]) -> Result<Vec<u8>, A
 // The bytes after a write that begins past their end.
 fn behind(alloc: Global, old: &[u8], at: usize, bytes: &[u8]) -> Result<Vec<u8>, AllocError>
     requires { length old.now < at }
-    ensures { IfOk result (λ v. v.items ≡ (old.now ++ replicate (at - length old.now) 0) ++ bytes.now) }
+    ensures { IfOk result
+        (λ v. v.items ≡ (old.now ++ replicate (at - length old.now) 0) ++ bytes.now) }
 {
     let mut next = old.to_vec(alloc)?;
     next.resize(at, 0)?;
@@ -138,7 +141,8 @@ pub(crate) fn write(
     requires some { 0 < length bytes.now }
     requires short { at + length bytes.now ≤ 2 ^ 62 }
     ensures ok { OnOk result (Logged files.old files.new calls.old.items calls.new.items file
-        (written (file_of file files.old) at bytes.now) (Change.Write (min at (length (file_of file files.old))) (at + length bytes.now))) }
+        (written (file_of file files.old) at bytes.now)
+        (Change.Write (min at (length (file_of file files.old))) (at + length bytes.now))) }
     ensures files_err { OnErr result (files.new ≡ files.old) }
     ensures calls_err { OnErr result (calls.new.items ≡ calls.old.items) }
 {
@@ -180,7 +184,8 @@ pub(crate) fn put(
     file: FileName,
     bytes: &[u8],
 ) -> Result<(), AllocError>
-    ensures ok { OnOk result (Logged files.old files.new calls.old.items calls.new.items file bytes.now Change.Put) }
+    ensures ok { OnOk result
+        (Logged files.old files.new calls.old.items calls.new.items file bytes.now Change.Put) }
     ensures files_err { OnErr result (files.new ≡ files.old) }
     ensures calls_err { OnErr result (calls.new.items ≡ calls.old.items) }
 {

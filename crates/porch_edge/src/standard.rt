@@ -36,8 +36,8 @@ impl<R: Read> Source for StdSource<R> {
     // Where the reader tells its bytes, those that are given are taken from it, and none after `Failed`.
     fn read(&mut self, buf: &mut [u8]) -> Result<usize, Failed>
         ensures bound { IfOk result (λ n. n ≤ length buf.new) }
-        ensures exact { ReadConsumes (R.remaining (reader_of self.old)) (R.remaining (reader_of self.new))
-            result buf.new }
+        ensures exact { ReadConsumes
+            (R.remaining (reader_of self.old)) (R.remaining (reader_of self.new)) result buf.new }
         ensures cause { HasCause self.old.faults self.new.faults result }
         ensures counted { self.new.faults ≡ faults_after self.old.faults result }
     {
@@ -72,8 +72,8 @@ impl<W: Write> Sink for StdSink<W> {
     fn write(&mut self, bytes: &[u8]) -> Result<usize, Failed>
         ensures bound { IfOk result (λ n. n ≤ length bytes.now) }
         ensures some { IfOk result (λ n. 0 < length bytes.now → 0 < n) }
-        ensures exact { WriteAppends (W.contents (writer_of self.old)) (W.contents (writer_of self.new))
-            result bytes.now }
+        ensures exact { WriteAppends
+            (W.contents (writer_of self.old)) (W.contents (writer_of self.new)) result bytes.now }
         ensures cause { HasCause self.old.faults self.new.faults result }
         ensures counted { self.new.faults ≡ faults_after self.old.faults result }
     {
