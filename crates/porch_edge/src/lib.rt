@@ -22,8 +22,6 @@ pub mod memory_source;
 pub mod sink;
 pub mod source;
 pub mod standard;
-#[cfg(test)]
-mod tests;
 
 pub use disk::{Disk, FileName};
 pub use failed::Failed;

@@ -21,8 +21,6 @@ mod heap;
 mod hint;
 mod place;
 mod row;
-#[cfg(test)]
-mod tests;
 mod too_large;
 
 pub use block::{Block, HeapFull, NotABlock};

@@ -10,6 +10,3 @@ mod table;
 
 pub use laws::{elements_are_aligned, parts_lie_inside, places_rise, rounding_up_is_least};
 pub use metrics::Metrics;
-
-#[cfg(test)]
-mod tests;

@@ -14,6 +14,3 @@ pub use laws::leaves_add_up;
 pub use parts::{Part, Row};
 pub use shapes::{Kind, Members, Ty};
 pub use types::{TypeFault, Types, subobjects_are_one};
-
-#[cfg(test)]
-mod tests;
