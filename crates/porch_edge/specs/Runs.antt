@@ -7,7 +7,7 @@ use Rattle.std.specs.declared.result.Result.TheVariants.{Ok, Err}
 use Rattle.porch_edge.specs.declared.disk.FileName.{FileName}
 use Rattle.porch_edge.specs.declared.failed.Failed.{Failed}
 use Rattle.porch_edge.specs.Files.{Files, file_of, with_file, written, Shortened, Marred}
-use Rattle.porch_edge.specs.Disk.{DiskState, Moment, IsBy, WhereTold, BothTell, Follows, Passes, Stays, Alters, ReadStep, WriteStep, CutStep, SyncStep, TornWrite, LeavesOnly, ButFor, IsSettled, Touches, TouchesOnly, Looks, OnlyLooks, HasNow}
+use Rattle.porch_edge.specs.Disk.{DiskState, Moment, IsBy, WhereTold, BothTell, Follows, Passes, Stays, Alters, LenStep, ReadStep, WriteStep, CutStep, SyncStep, TornWrite, LeavesOnly, ButFor, IsSettled, Touches, TouchesOnly, Looks, OnlyLooks, HasNow}
 use Rattle.porch_edge.specs.OneFile.{own_bytes, with_own, with_twice}
 use Rattle.porch_edge.specs.Told.{told_at, tells_on, silent_on, both_by, second_told}
 
@@ -167,6 +167,13 @@ run_begins_settled s file F Q start only settled facts = both_by s.files s.files
 
 -- one call more on the same file
 module _ (s0 s t : DiskState) (file : FileName) where
+  pub run_len : (r : Result ℕ Failed) (M Q : List ℕ → List ℕ → Type 0) → ((old x : List ℕ) → M old x → Q old x) → Run s0 s file M Q → LenStep s t file r → Run s0 t file M Q
+  run_len r M Q imp run step = both_by s0.files t.files _ (λ none. silent_on s.files t.files _ (silent_on s0.files s.files _ none run) step) (λ fs is.
+      let u = tells_on s0.files s.files _ fs is run in
+      let v = tells_on s.files t.files _ u.0 u.1 step in
+      let old = file_of file fs in
+      (v.0, v.1, going_stays s0 fs file s t u.0 v.0 (M old) (Q old) (imp old) u.2 v.2.0))
+
   pub run_read : (at : ℕ) (before after : List ℕ) (r : Result ℕ Failed) (M Q : List ℕ → List ℕ → Type 0) → ((old x : List ℕ) → M old x → Q old x) → Run s0 s file M Q → ReadStep s t file at before after r → Run s0 t file M Q
   run_read at before after r M Q imp run step = both_by s0.files t.files _ (λ none. silent_on s.files t.files _ (silent_on s0.files s.files _ none run) step) (λ fs is.
       let u = tells_on s0.files s.files _ fs is run in

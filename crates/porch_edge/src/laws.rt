@@ -8,10 +8,23 @@ ghost use Rattle.std.specs.declared.result.Result.{Result};
 ghost use Rattle.porch_edge.specs.declared.disk.FileName.{FileName};
 ghost use Rattle.porch_edge.specs.declared.failed.Failed.{Failed};
 ghost use Rattle.porch_edge.specs.Files.{Shortened, Marred};
-ghost use Rattle.porch_edge.specs.Disk.{ReadStep, WriteStep, CutStep, SyncStep, TornWrite, IsSettled, OnlyLooks, HasNow};
+ghost use Rattle.porch_edge.specs.Disk.{LenStep, ReadStep, WriteStep, CutStep, SyncStep, TornWrite, IsSettled, OnlyLooks, HasNow};
 ghost use Rattle.porch_edge.specs.Runs.{KeepsPassing, TouchesPassing};
 
 use crate::Disk;
+
+/// A length, a read and a sync change nothing, whatever they answer: reads give the same, and a crash leaves nothing
+/// that it couldn't leave before.
+pub fn calls_look<D: Disk>()
+    ensures len { (s t : D) (file : FileName) (r : Result ℕ Failed)
+        → LenStep (D.state s) (D.state t) file r → OnlyLooks (D.state s) (D.state t) }
+    ensures read { (s t : D) (file : FileName) (at : ℕ) (before after : List ℕ)
+        (r : Result ℕ Failed)
+        → ReadStep (D.state s) (D.state t) file at before after r
+        → OnlyLooks (D.state s) (D.state t) }
+    ensures sync { (s t : D) (file : FileName) (r : Result (Unit {0}) Failed)
+        → SyncStep (D.state s) (D.state t) file r → OnlyLooks (D.state s) (D.state t) }
+{}
 
 /// Two runs of calls that change nothing are one.
 pub fn looks_join<D: Disk>()
@@ -38,6 +51,11 @@ pub fn runs_begin<D: Disk>()
 /// A run on a file goes on by one call. At each moment a crash leaves bytes that pass the test, if each call turns
 /// bytes that pass it into bytes that do.
 pub fn runs_go_on<D: Disk>()
+    ensures len { (s t u : D) (file : FileName) (test : List ℕ → List ℕ → Bool)
+        (r : Result ℕ Failed)
+        → TouchesPassing (D.state s) (D.state t) file test
+        → LenStep (D.state t) (D.state u) file r
+        → TouchesPassing (D.state s) (D.state u) file test }
     ensures read { (s t u : D) (file : FileName) (test : List ℕ → List ℕ → Bool)
         (at : ℕ) (before after : List ℕ) (r : Result ℕ Failed)
         → TouchesPassing (D.state s) (D.state t) file test

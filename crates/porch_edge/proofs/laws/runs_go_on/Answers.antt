@@ -1,7 +1,15 @@
 use Rattle.std.proofs.Common.{ℕ, List, IsTrue}
-use Rattle.porch_edge.specs.Runs.{run_read, run_write, run_cut, run_sync, run_touches, touches_run}
+use Rattle.porch_edge.specs.Runs.{run_len, run_read, run_write, run_cut, run_sync, run_touches, touches_run}
 use Rattle.porch_edge.specs.Told.{when_told}
 use Rattle.porch_edge.proofs.laws.runs_go_on.Goals as goal
+
+pub returns-clause-len : goal.returns-clause-len
+returns-clause-len g c = λ s t u file test r run step.
+    let s0 = g.D.Disk.state s in
+    let s1 = g.D.Disk.state t in
+    let s2 = g.D.Disk.state u in
+    let Q : List ℕ → List ℕ → Type 0 = λ old x. IsTrue (test old x) in
+    run_touches s0 s2 file Q Q (λ old x q. q) (run_len s0 s1 s2 file r Q Q (λ old x q. q) (touches_run s0 s1 file Q run) step)
 
 pub returns-clause-read : goal.returns-clause-read
 returns-clause-read g c = λ s t u file test at before after r run step.
