@@ -1,0 +1,8 @@
+-- how words are spelled, and which word each operator is
+pub mod Words
+-- the tree as plain data
+pub mod Mirror
+-- what the code's tree is as plain data
+pub mod Views
+-- what a tree is as tokens
+pub mod Pieces
