@@ -6,3 +6,9 @@ pub mod Mirror
 pub mod Views
 -- what a tree is as tokens
 pub mod Pieces
+-- which trees the grammar has
+pub mod Formed
+-- where typedef names are types
+pub mod Names
+-- which tokens are a unit, and which is the first wrong one
+pub mod Grammar
