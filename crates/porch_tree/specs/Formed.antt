@@ -4,7 +4,6 @@ use Rattle.std.specs.Prelude.{ℕ, ◌≡◌, ◌≢◌, ◌<◌, ◌+◌, zero,
 use Rattle.std.specs.List.{list_all}
 use Rattle.porch_tree.specs.declared.word.Keyword.{Keyword}
 use Rattle.porch_tree.specs.declared.word.Keyword.TheVariants as key
-use Rattle.porch_tree.specs.declared.tree.Consts.{Consts}
 use Rattle.porch_tree.specs.declared.tree.Level.{Level}
 use Rattle.porch_tree.specs.declared.tree.Prefix.{Prefix}
 use Rattle.porch_tree.specs.declared.tree.Prefix.TheVariants.{Increase, Decrease, Sizeof}
@@ -114,7 +113,7 @@ abbrev pub is_kind : List Keyword → Bool
 is_kind ks =
     list_all is_kind_word ks
     && is_kind_of (count_by is_char ks) (count_by is_short ks) (count_by is_int ks)
-      (count_by is_long ks) (count_by is_signed ks) (count_by is_unsigned ks)
+    (count_by is_long ks) (count_by is_signed ks) (count_by is_unsigned ks)
 
 -- A place that is kept twice is kept as one.
 abbrev pub IsPlaced : ℕ → ℕ → Name → Type 0

@@ -12,3 +12,5 @@ pub mod Formed
 pub mod Names
 -- which tokens are a unit, and which is the first wrong one
 pub mod Grammar
+-- some small units
+pub mod Worked

@@ -112,7 +112,7 @@ module _ (inside : Bool) where
     expr_pieces (row l e os) d ps = expr_pieces e d (operands_pieces os d ps)
     expr_pieces (conditional e a b) d ps =
         expr_pieces e (suc d)
-          (mark Question (suc d) ∷ expr_pieces a (suc (suc d)) (mark Colon (suc d) ∷ expr_pieces b (suc d) ps))
+        (mark Question (suc d) ∷ expr_pieces a (suc (suc d)) (mark Colon (suc d) ∷ expr_pieces b (suc d) ps))
     expr_pieces (assign a x e) d ps =
         expr_pieces x (suc d) (mark (assigning_mark a) (suc d) ∷ expr_pieces e (suc d) ps)
     expr_pieces (sequence e es) d ps = expr_pieces e d (more_pieces es d ps)
@@ -154,26 +154,26 @@ module _ (inside : Bool) where
     base_pieces (kind at words) d ps = kind_pieces words (Some at) d ps
     base_pieces (void at c) d ps =
         const_pieces c.before (Some at) d
-          (piece (behind_consts c.before at) (word.Key Void) d ∷ const_pieces c.behind None d ps)
+        (piece (behind_consts c.before at) (word.Key Void) d ∷ const_pieces c.behind None d ps)
     base_pieces (typedef_name at n c) d ps =
         const_pieces c.before (Some at) d
-          (spelt word.Name n d ∷ const_pieces c.behind None d ps)
+        (spelt word.Name n d ∷ const_pieces c.behind None d ps)
     base_pieces (tag at sort n c) d ps =
         const_pieces c.before (Some at) d
-          (piece (behind_consts c.before at) (word.Key (tag_keyword sort)) d
-            ∷ spelt word.Name n d ∷ const_pieces c.behind None d ps)
+        (piece (behind_consts c.before at) (word.Key (tag_keyword sort)) d
+        ∷ spelt word.Name n d ∷ const_pieces c.behind None d ps)
     base_pieces (structure at n fs c) d ps =
         const_pieces c.before (Some at) d
-          (piece (behind_consts c.before at) (word.Key Struct) d
-            ∷ tag_pieces n d
-              (mark OpenBrace d
-                ∷ fields_pieces fs (suc d) (mark CloseBrace d ∷ const_pieces c.behind None d ps)))
+        (piece (behind_consts c.before at) (word.Key Struct) d
+        ∷ tag_pieces n d
+        (mark OpenBrace d
+        ∷ fields_pieces fs (suc d) (mark CloseBrace d ∷ const_pieces c.behind None d ps)))
     base_pieces (enumeration at n cs c) d ps =
         const_pieces c.before (Some at) d
-          (piece (behind_consts c.before at) (word.Key Enum) d
-            ∷ tag_pieces n d
-              (mark OpenBrace d
-                ∷ constants_pieces cs d (mark CloseBrace d ∷ const_pieces c.behind None d ps)))
+        (piece (behind_consts c.before at) (word.Key Enum) d
+        ∷ tag_pieces n d
+        (mark OpenBrace d
+        ∷ constants_pieces cs d (mark CloseBrace d ∷ const_pieces c.behind None d ps)))
 
     pub fields_pieces : Fields → ℕ → List Piece → List Piece
     fields_pieces no_fields d ps = ps
@@ -214,7 +214,7 @@ module _ (inside : Bool) where
     pub declarator_pieces : Declarator → ℕ → List Piece → List Piece
     declarator_pieces (declarator at stars core bs) d ps =
         star_pieces stars (Some at) d
-          (core_pieces core d (brackets_pieces bs (first_bracket at stars core) d ps))
+        (core_pieces core d (brackets_pieces bs (first_bracket at stars core) d ps))
 
     pub core_pieces : Core → ℕ → List Piece → List Piece
     core_pieces lacking d ps = ps
@@ -315,7 +315,7 @@ abbrev mutual
   stmt_pieces (block at ds ss) d ps =
       mark_at true at OpenBrace (suc (suc d))
       ∷ declarations_pieces true ds (suc (suc d))
-        (stmts_pieces ss (suc (suc d)) (mark true CloseBrace (suc (suc d)) ∷ ps))
+      (stmts_pieces ss (suc (suc d)) (mark true CloseBrace (suc (suc d)) ∷ ps))
   stmt_pieces (evaluate e) d ps = optional_pieces true e (suc d) (mark true Semicolon (suc d) ∷ ps)
   stmt_pieces (choose at e s) d ps =
       key_at true at If (suc d) ∷ mark true OpenParenthesis (suc d)
@@ -323,30 +323,30 @@ abbrev mutual
   stmt_pieces (choose_else at e s t) d ps =
       key_at true at If (suc d) ∷ mark true OpenParenthesis (suc d)
       ∷ whole_pieces true e (suc d)
-        (mark true CloseParenthesis (suc d)
-          ∷ stmt_pieces s (suc d) (key true Else (suc d) ∷ stmt_pieces t (suc d) ps))
+      (mark true CloseParenthesis (suc d)
+      ∷ stmt_pieces s (suc d) (key true Else (suc d) ∷ stmt_pieces t (suc d) ps))
   stmt_pieces (while_loop at e s) d ps =
       key_at true at While (suc d) ∷ mark true OpenParenthesis (suc d)
       ∷ whole_pieces true e (suc d) (mark true CloseParenthesis (suc d) ∷ stmt_pieces s (suc d) ps)
   stmt_pieces (do_loop at s e) d ps =
       key_at true at Do (suc d)
       ∷ stmt_pieces s (suc d)
-        (key true While (suc d) ∷ mark true OpenParenthesis (suc d)
-          ∷ whole_pieces true e (suc d)
-            (mark true CloseParenthesis (suc d) ∷ mark true Semicolon (suc d) ∷ ps))
+      (key true While (suc d) ∷ mark true OpenParenthesis (suc d)
+      ∷ whole_pieces true e (suc d)
+      (mark true CloseParenthesis (suc d) ∷ mark true Semicolon (suc d) ∷ ps))
   stmt_pieces (for_loop at a b c s) d ps =
       key_at true at For (suc d) ∷ mark true OpenParenthesis (suc d)
       ∷ optional_pieces true a (suc d)
-        (mark true Semicolon (suc d)
-          ∷ optional_pieces true b (suc d)
-            (mark true Semicolon (suc d)
-              ∷ optional_pieces true c (suc d)
-                (mark true CloseParenthesis (suc d) ∷ stmt_pieces s (suc d) ps)))
+      (mark true Semicolon (suc d)
+      ∷ optional_pieces true b (suc d)
+      (mark true Semicolon (suc d)
+      ∷ optional_pieces true c (suc d)
+      (mark true CloseParenthesis (suc d) ∷ stmt_pieces s (suc d) ps)))
   stmt_pieces (switch at e xs) d ps =
       key_at true at Switch (suc d) ∷ mark true OpenParenthesis (suc d)
       ∷ whole_pieces true e (suc d)
-        (mark true CloseParenthesis (suc d) ∷ mark true OpenBrace (suc d)
-          ∷ switch_pieces xs (suc d) (mark true CloseBrace (suc d) ∷ ps))
+      (mark true CloseParenthesis (suc d) ∷ mark true OpenBrace (suc d)
+      ∷ switch_pieces xs (suc d) (mark true CloseBrace (suc d) ∷ ps))
   stmt_pieces (break at) d ps = key_at true at Break (suc d) ∷ mark true Semicolon (suc d) ∷ ps
   stmt_pieces (continue at) d ps = key_at true at Continue (suc d) ∷ mark true Semicolon (suc d) ∷ ps
   stmt_pieces (give at e) d ps =
@@ -369,11 +369,11 @@ abbrev mutual
 abbrev pub definition_pieces : Definition → List Piece → List Piece
 definition_pieces f ps =
     static_pieces false f.fixed 0
-      (base_pieces false f.base 0
-        (declarator_pieces false f.declarator 1
-          (mark false OpenBrace 1
-            ∷ declarations_pieces true f.declarations 1
-              (stmts_pieces f.body 1 (mark true CloseBrace 1 ∷ ps)))))
+    (base_pieces false f.base 0
+    (declarator_pieces false f.declarator 1
+    (mark false OpenBrace 1
+    ∷ declarations_pieces true f.declarations 1
+    (stmts_pieces f.body 1 (mark true CloseBrace 1 ∷ ps)))))
 
 abbrev pub item_pieces : Item → List Piece → List Piece
 item_pieces (typedef b x) ps =

@@ -1,5 +1,5 @@
 -- How words are spelled, and which word each operator of the tree is.
-use Rattle.std.specs.Prelude.{ℕ, Bool, true, false, List, [], ◌∷◌, codes}
+use Rattle.std.specs.Prelude.{ℕ, List, [], ◌∷◌, codes}
 use Rattle.porch_tree.specs.declared.word.Keyword.{Keyword}
 use Rattle.porch_tree.specs.declared.word.Mark.{Mark}
 use Rattle.porch_tree.specs.declared.word.Word.{Word}

@@ -108,9 +108,15 @@ pub enum Expr {
     /// A character constant.
     Character(Name),
     /// String literals that stand side by side.
-    Texts { first: Name, more: Items<Name> },
+    Texts {
+        first: Name,
+        more: Items<Name>,
+    },
     /// `( expr )`
-    Nested { at: u32, expr: Boxed<Expr> },
+    Nested {
+        at: u32,
+        expr: Boxed<Expr>,
+    },
     /// An operand, and what stands behind it, at least one suffix.
     Suffixed {
         operand: Boxed<Expr>,
@@ -123,7 +129,10 @@ pub enum Expr {
         operand: Boxed<Expr>,
     },
     /// `sizeof ( typename )`
-    SizeOf { at: u32, name: Boxed<TypeName> },
+    SizeOf {
+        at: u32,
+        name: Boxed<TypeName>,
+    },
     /// `( typename ) operand`
     Cast {
         at: u32,
@@ -176,8 +185,14 @@ pub enum Suffix {
 #[derive(Drop)]
 pub enum Base {
     /// A kind: its words as written, `const` among them.
-    Kind { at: u32, words: Items<Keyword> },
-    Void { at: u32, consts: Consts },
+    Kind {
+        at: u32,
+        words: Items<Keyword>,
+    },
+    Void {
+        at: u32,
+        consts: Consts,
+    },
     /// A typedef name.
     TypedefName {
         at: u32,
@@ -350,10 +365,17 @@ pub enum Stmt {
         value: Expr,
         entries: Items<SwitchEntry>,
     },
-    Break { at: u32 },
-    Continue { at: u32 },
+    Break {
+        at: u32,
+    },
+    Continue {
+        at: u32,
+    },
     /// `return value ;`
-    Return { at: u32, value: Option<Expr> },
+    Return {
+        at: u32,
+        value: Option<Expr>,
+    },
 }
 
 /// What stands in the braces of a switch.
