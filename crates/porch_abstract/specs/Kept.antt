@@ -1,5 +1,5 @@
 -- How a run of a valid program is kept, and which state it stands for: one frame, of ints. Only private contracts cite it.
-use Rattle.std.specs.Prelude.{ℕ, ◌≡◌, ◌<◌, ◌+◌, ℤ, pos, List, [], ◌∷◌, ◌++◌, length, map, slice_set, Option, Some, None}
+use Rattle.std.specs.Prelude.{ℕ, ◌≡◌, ◌<◌, ◌+◌, ℤ, pos, List, [], ◌∷◌, ◌++◌, length, map, slice_set, Option, Some, None, ⊤}
 use Rattle.porch_objects.specs.Store.{Value, number, indeterminate, one_of, Object, Activation, Store, store_of}
 use Rattle.porch_flat.specs.Valid.{int_type}
 use Rattle.porch_abstract.specs.declared.effects.Effect.{Effect}
@@ -48,14 +48,14 @@ state_in phase vars next output turns =
 abbrev pub state_of : Run → State
 state_of run = state_in run.phase run.vars.items run.next run.output.items run.turns
 
--- turn 1 was counted, unless the run has not begun, where there are no variables yet
-abbrev pub IsCountedIn : kept.Phase → List (Option ℤ) → ℕ → Type 0
-IsCountedIn Begun vars turns = vars ≡ []
-IsCountedIn Running vars turns = 0 < turns
-IsCountedIn Over vars turns = 0 < turns
+-- turn 1 was counted, unless the run has not begun
+abbrev pub IsCountedIn : kept.Phase → ℕ → Type 0
+IsCountedIn Begun turns = ⊤
+IsCountedIn Running turns = 0 < turns
+IsCountedIn Over turns = 0 < turns
 
 abbrev pub IsCounted : Run → Type 0
-IsCounted run = IsCountedIn run.phase run.vars.items run.turns
+IsCounted run = IsCountedIn run.phase run.turns
 
 -- what an effect leads to
 abbrev pub effected : List (Option ℤ) → ℕ → List ℕ → ℕ → Effect → Next
