@@ -5,8 +5,13 @@
 #![tactic(auto)]
 
 ghost use Rattle.std.specs.Prelude.{ℕ, ℤ};
-ghost use Rattle.porch_objects.specs.Store.{Home, Store};
-ghost use Rattle.porch_objects.specs.Laws.{SeenOnce, ForgetsEnds, IsTruth, IsLowByte};
+ghost use Rattle.porch_objects.specs.Store.{Home, Value, Store};
+ghost use Rattle.porch_objects.specs.Laws.{StoresAt, SeenOnce, ForgetsEnds, IsTruth, IsLowByte};
+
+/// A stored value is read back, and every other leaf is as it was.
+pub fn stores_one_leaf()
+    ensures { (s : Store) (home : Home) (leaf : ℕ) (v : Value) → StoresAt s home leaf v }
+{}
 
 /// Seeing a value twice is seeing it once.
 pub fn seeing_is_once()
