@@ -20,8 +20,6 @@ pub mod memory_source;
 pub mod sink;
 pub mod source;
 pub mod standard;
-#[cfg(test)]
-mod tests;
 
 pub use disk::{Disk, FileName};
 pub use failed::Failed;

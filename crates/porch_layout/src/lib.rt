@@ -7,8 +7,6 @@
 mod fault;
 mod file;
 mod layout;
-#[cfg(test)]
-mod tests;
 
 pub use fault::{LayoutFault, LayoutKey, LayoutRule};
 pub use file::layout_from;

@@ -8,6 +8,11 @@ use Rattle.porch_types.specs.Rows.{part_at}
 use Rattle.porch_layout.specs.declared.layout.Layout.{Layout}
 use Rattle.porch_metrics.specs.Extents.{Extent, extent_of, member_places}
 
+-- the types and the layout that places are counted under
+pub record Measures : Type 0 where
+  pub types : List Ty
+  pub layout : Layout
+
 -- where element or member number `index` of a type begins in it
 abbrev pub part_place : (ℕ → Extent) → Option Ty → ℕ → ℕ
 part_place extents (Some (Array of count)) index = index * (extents of).size

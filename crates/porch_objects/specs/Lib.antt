@@ -6,3 +6,5 @@ pub mod Meaning
 pub mod Pointers
 -- laws of these words
 pub mod Laws
+-- cases of them that are worked out
+pub mod Worked

@@ -1,5 +1,5 @@
 -- What is said of a run, whatever runs: what surrounds it, how far it has come, how it ends, and what it shows.
-use Rattle.std.specs.Prelude.{ℕ, ◌+◌, nat_eq, ℤ, pos, int_lt, unsigned_abs, Bool, true, List, [], ◌∷◌, ◌++◌, if◌then◌else◌}
+use Rattle.std.specs.Prelude.{ℕ, ◌+◌, ℤ, pos, int_lt, unsigned_abs, Bool, true, List, [], ◌++◌, if◌then◌else◌}
 use Rattle.porch_values.specs.declared.acts.Act.{Act}
 use Rattle.porch_values.specs.declared.widths.Widths.{Widths}
 use Rattle.porch_values.specs.Integers.{low_bits}

@@ -1,14 +1,14 @@
 -- What is done through pointers and with them: each operation once, for the meaning of a source and for the flat machine.
 -- Where several acts are possible, Indeterminate comes first.
-use Rattle.std.specs.Prelude.{ℕ, zero, suc, ◌+◌, ◌-◌, ◌*◌, ◌/◌, ℤ, pos, negsuc, nat_eq, nat_lt, unsigned_abs, ◌+ℤ◌, ◌-ℤ◌, int_lt, List, [], ◌∷◌, ◌++◌, length, slice_get, take, drop, Bool, true, false, ◌&&◌, ◌||◌, if◌then◌else◌, Option, Some, None, Result, Ok, Err}
-use Rattle.std.specs.Option.{option_map, option_and_then}
+use Rattle.std.specs.Prelude.{ℕ, zero, suc, ◌+◌, ◌-◌, ◌*◌, ◌/◌, ℤ, pos, negsuc, nat_eq, nat_lt, unsigned_abs, ◌+ℤ◌, ◌-ℤ◌, int_lt, List, [], ◌∷◌, ◌++◌, length, take, drop, Bool, true, false, ◌&&◌, ◌||◌, if◌then◌else◌, Option, Some, None, Result, Ok, Err}
+use Rattle.std.specs.Option.{option_map}
 use Rattle.porch_types.specs.declared.shapes.Ty.{Ty}
 use Rattle.porch_types.specs.declared.parts.Row.{Row}
 use Rattle.porch_types.specs.Leaves.{leaves_of}
 use Rattle.porch_types.specs.Rows.{row_at, has_shared_end}
 use Rattle.porch_values.specs.declared.acts.Act.{Act}
 use Rattle.porch_values.specs.declared.acts.Act.TheVariants as act
-use Rattle.porch_objects.specs.Store.{Home, of_global, of_call, of_block, Value, number, null, pointer, past, indeterminate, Root, Object, HeapObject, Store, fresh, zeroed, object_at, seen, leaf_of, leaf_at, changed, with_leaves, with_leaf_at, with_blocks}
+use Rattle.porch_objects.specs.Store.{Home, of_global, of_call, of_block, Value, number, null, pointer, past, indeterminate, Root, Object, HeapObject, Store, fresh, zeroed, object_at, seen, leaf_at, changed, with_leaves, with_leaf_at, with_blocks}
 use Rattle.porch_objects.specs.Meaning.{byte_of}
 
 -- what is done with a value that is there

@@ -2,7 +2,7 @@
 --
 -- An object is named by what it is, and is alive as long as the store has it. So a pointer to an object that has ended
 -- names nothing, and two runs that make the same calls and allocations name their objects alike.
-use Rattle.std.specs.Prelude.{ℕ, ◌+◌, ◌*◌, nat_eq, ℤ, pos, List, [], ◌∷◌, length, map, replicate, slice_get, slice_set, slice_index_or, Bool, true, false, ◌&&◌, is_some, if◌then◌else◌, Option, Some, None}
+use Rattle.std.specs.Prelude.{ℕ, ◌+◌, ◌*◌, nat_eq, ℤ, pos, List, [], ◌∷◌, length, map, replicate, slice_get, slice_set, slice_index_or, Bool, true, ◌&&◌, is_some, if◌then◌else◌, Option, Some, None}
 use Rattle.std.specs.List.{range_with_len}
 use Rattle.porch_types.specs.declared.shapes.Ty.{Ty}
 use Rattle.porch_types.specs.declared.shapes.Ty.TheVariants.{Pointer}
@@ -158,6 +158,10 @@ with_calls s calls =
 abbrev pub with_blocks : Store → List HeapObject → Store
 with_blocks s blocks =
     record { globals = s.globals; calls = s.calls; blocks = blocks; called = s.called; allocated = s.allocated; checkpoints = s.checkpoints }
+
+abbrev pub with_allocated : Store → ℕ → Store
+with_allocated s allocated =
+    record { globals = s.globals; calls = s.calls; blocks = s.blocks; called = s.called; allocated = allocated; checkpoints = s.checkpoints }
 
 -- the store with a change to one object, where it lives
 abbrev pub changed : (Object → Object) → Store → Home → Store

@@ -4,9 +4,11 @@
 //! `specs/Pointers` what is done through pointers. There is no code to run: each function here states a law.
 #![tactic(auto)]
 
-ghost use Rattle.std.specs.Prelude.{ℕ, ℤ};
-ghost use Rattle.porch_objects.specs.Store.{Home, Value, Store};
-ghost use Rattle.porch_objects.specs.Laws.{StoresAt, SeenOnce, ForgetsEnds, IsTruth, IsLowByte};
+ghost use Rattle.std.specs.Prelude.{ℕ, ℤ, List};
+ghost use Rattle.porch_objects.specs.Store.{Home, Value, Object, Store};
+ghost use Rattle.porch_objects.specs.Laws.{StoresAt, SeenOnce, ForgetsEnds, EndsWithItsCall, EndsWhereFreed, IsTruth, IsLowByte};
+
+pub mod worked;
 
 /// A stored value is read back, and every other leaf is as it was.
 pub fn stores_one_leaf()
@@ -16,6 +18,16 @@ pub fn stores_one_leaf()
 /// Seeing a value twice is seeing it once.
 pub fn seeing_is_once()
     ensures { SeenOnce }
+{}
+
+/// A call's variables live from its beginning to its end.
+pub fn variables_end_with_their_call()
+    ensures { (s : Store) (variables : List Object) → EndsWithItsCall s variables }
+{}
+
+/// An allocation lives from where it is made to where it is freed.
+pub fn allocations_end_where_freed()
+    ensures { (s : Store) (object : Object) → EndsWhereFreed s object }
 {}
 
 /// A `checkpoint()` that is reached ends what is known of a shared end, and nothing else.

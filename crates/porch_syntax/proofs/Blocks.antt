@@ -5,7 +5,7 @@ use Rattle.porch_syntax.specs.declared.statement.Block as block_type
 use Rattle.std.specs.Option.{option_map}
 use Rattle.porch_syntax.specs.declared.statement.Written as written_type
 use Rattle.porch_syntax.specs.Tree.{node_of}
-use Rattle.porch_syntax.specs.Program.{Block, block_of, blocks_of, written_of}
+use Rattle.porch_syntax.specs.inside.Program.{Block, block_of, blocks_of, written_of}
 
 above_length : (xs : List block_type.Block) (acc : List Block) → length (fold (λ above b. block_of b ∷ above) acc xs) ≡ length acc + length xs
 above_length [] acc = omega arith

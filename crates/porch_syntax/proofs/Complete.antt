@@ -10,8 +10,8 @@ use Rattle.porch_syntax.specs.declared.statement.Purpose.{Purpose}
 use Rattle.porch_syntax.specs.declared.statement.Purpose.TheVariants as purpose
 use Rattle.porch_syntax.specs.Tree.{Node, variable, whole, character, nested, product, sum, less, Nodes, no_nodes, node, Terms as TermsOf, no_terms, term, Action, assign, repeat, putchar, give, Actions, no_actions, action, Program, terms_of}
 use Rattle.porch_syntax.specs.Language.{sign_token, expr_tokens, factor_tokens, term_tokens, stmt_tokens, stmts_tokens, decl_tokens, unit_tokens, binding_of, IsGrouped, AreFactors, AreTerms, IsWithin, AreWithin, TermsAreWithin, depth_of, factors_depth, terms_depth, IsExpr, IsStmt, AreStmts, AreDecls}
-use Rattle.porch_syntax.specs.Reading.{Factors, Terms, Front, Frame, Reading, at_atom, behind_atom, goes, wrong, with_factor, product_at, product_of, with_term, sum_of, value_of, fresh, read_step}
-use Rattle.porch_syntax.specs.Program.{Written, declarations, statements, declared, assigning, reading, State, known, state, semicolon_step, parenthesis_step, outcome_step, then_run, run, beginning, program_in, read_program}
+use Rattle.porch_syntax.specs.inside.Reading.{Factors, Terms, Front, Frame, Reading, at_atom, behind_atom, goes, wrong, with_factor, product_at, product_of, with_term, sum_of, value_of, fresh, read_step}
+use Rattle.porch_syntax.specs.inside.Program.{Written, declarations, statements, declared, assigning, reading, State, known, state, semicolon_step, parenthesis_step, outcome_step, then_run, run, beginning, program_in, read_program}
 use Rattle.porch_syntax.proofs.Lists.{nodes_list, nodes_back, terms_list, terms_back, actions_list, actions_back, append_nothing, append_one}
 
 lt_true : (x n : ℕ) → x < n → nat_lt x n ≡ true

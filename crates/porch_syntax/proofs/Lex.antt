@@ -6,7 +6,7 @@ use Rattle.porch_syntax.specs.declared.token.Token.TheVariants as token
 use Rattle.porch_syntax.specs.declared.lexeme.Lexeme.{Lexeme}
 use Rattle.porch_syntax.specs.declared.lexeme.Lexeme.TheVariants.{Fixed, Name, Wrong}
 use Rattle.porch_syntax.specs.Token.{is_space}
-use Rattle.porch_syntax.specs.Lexing.{kind_of, more_of, length_of, number_of, with_name, Lexed, behind, lexeme_step, lex, Taken}
+use Rattle.porch_syntax.specs.inside.Lexing.{kind_of, more_of, length_of, number_of, with_name, Lexed, behind, lexeme_step, lex, Taken}
 use Rattle.porch_syntax.proofs.Lists.{append_one}
 
 pub lex_skip : (cs : List ℕ) (k : ℕ) (names : List (List ℕ)) → lex cs k names ≡ lex (drop k cs) 0 names

@@ -5,8 +5,8 @@ use Rattle.porch_syntax.specs.declared.token.Token.{Token}
 use Rattle.porch_syntax.specs.Tree.{Program}
 use Rattle.porch_syntax.specs.Token.{Spells}
 use Rattle.porch_syntax.specs.Language.{unit_tokens, IsSource}
-use Rattle.porch_syntax.specs.Lexing.{Lexed, lex}
-use Rattle.porch_syntax.specs.Source.{program_in_tokens, source_of}
+use Rattle.porch_syntax.specs.inside.Lexing.{Lexed, lex}
+use Rattle.porch_syntax.specs.inside.Source.{program_in_tokens, source_of}
 use Rattle.porch_syntax.proofs.Complete.{complete}
 use Rattle.porch_syntax.proofs.Stated.{Programs, IsProgram, sound}
 use Rattle.porch_syntax.proofs.Numbers.{Numbered, program_number, one_number}

@@ -5,7 +5,7 @@ use Rattle.std.specs.Str.{bytes_eq}
 use Rattle.std.proofs.lemmas.List.Sums.{prefix_len-le-length}
 use Rattle.porch_syntax.specs.declared.lexeme.Lexeme.TheVariants.{Wrong}
 use Rattle.porch_syntax.specs.Token.{decimal_of}
-use Rattle.porch_syntax.specs.Lexing.{decimal_kind, number_of, with_name, shown}
+use Rattle.porch_syntax.specs.inside.Lexing.{decimal_kind, number_of, with_name, shown}
 
 pub prefix_within : (p : ℕ → Bool) (xs : List ℕ) → prefix_len p xs ≤ length xs
 prefix_within p xs = prefix_len-le-length p xs

@@ -9,7 +9,7 @@ use Rattle.porch_syntax.specs.declared.expression.Part.{Part}
 use Rattle.porch_syntax.specs.declared.expression.Part.TheVariants as part
 use Rattle.porch_syntax.specs.Tree.{Node, nested, no_terms, nodes_of, terms_of}
 use Rattle.porch_syntax.specs.Language.{sign_token, expr_tokens, factor_tokens, term_tokens, binding_of, IsGrouped, AreFactors, AreTerms, IsWithin, AreWithin, TermsAreWithin, depth_of, factors_depth, terms_depth, IsExpr}
-use Rattle.porch_syntax.specs.Reading.{part_of, atom_node, Factors, Terms, Front, Frame, Reading, at_atom, behind_atom, Outcome, goes, ends, wrong, with_factor, product_at, product_of, with_term, sum_of, compared, value_of, fresh, opened, closed, ended, measured, at_step, behind_step, read_step}
+use Rattle.porch_syntax.specs.inside.Reading.{part_of, atom_node, Factors, Terms, Front, Frame, Reading, at_atom, behind_atom, Outcome, goes, ends, wrong, with_factor, product_at, product_of, with_term, sum_of, compared, value_of, fresh, opened, closed, ended, measured, at_step, behind_step, read_step}
 use Rattle.porch_syntax.proofs.Lists.{append_nothing, append_one}
 
 -- The tokens.

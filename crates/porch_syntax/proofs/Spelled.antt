@@ -9,7 +9,7 @@ use Rattle.porch_syntax.specs.declared.lexeme.Lexeme.{Lexeme}
 use Rattle.porch_syntax.specs.declared.lexeme.Lexeme.TheVariants.{Fixed, Name, Wrong}
 use Rattle.porch_syntax.specs.Token.{is_between, is_space, is_digit, is_letter, is_word, is_name, is_decimal, decimal_of, reserved, IsSpelling, is_whole}
 use Rattle.porch_syntax.specs.Language.{IsFresh, AreNames}
-use Rattle.porch_syntax.specs.Lexing.{decimal_kind, name_kind, word_kind, mark_kind, quoted_kind, other_kind, kind_of, quoted_more, more_of, length_of}
+use Rattle.porch_syntax.specs.inside.Lexing.{decimal_kind, name_kind, word_kind, mark_kind, quoted_kind, other_kind, kind_of, quoted_more, more_of, length_of}
 
 -- Tests.
 

@@ -6,8 +6,8 @@ use Rattle.porch_syntax.specs.declared.statement.Purpose.{Purpose}
 use Rattle.porch_syntax.specs.declared.statement.Purpose.TheVariants as purpose
 use Rattle.porch_syntax.specs.Tree.{Node, Action, assign, repeat, putchar, give, Program, actions_of}
 use Rattle.porch_syntax.specs.Language.{expr_tokens, stmt_tokens, stmts_tokens, decl_tokens, unit_tokens, IsExpr, IsStmt, AreStmts, AreDecls}
-use Rattle.porch_syntax.specs.Reading.{part_of, Reading, at_atom, Outcome, goes, ends, wrong, fresh, read_step}
-use Rattle.porch_syntax.specs.Program.{Block, Written, Phase, declarations, statements, declaring, declared, assigning, looping, entering, printing, printed, reading, over, State, known, state, with_variable, with_action, left_block, statement_step, declaration_step, declaring_step, declared_step, assigning_step, looping_step, entering_step, printing_step, printed_step, semicolon_step, parenthesis_step, end_step, outcome_step, step, then_run, run, beginning, program_at, program_in, body_of, program_from, read_program}
+use Rattle.porch_syntax.specs.inside.Reading.{part_of, Reading, at_atom, Outcome, goes, ends, wrong, fresh, read_step}
+use Rattle.porch_syntax.specs.inside.Program.{Block, Written, Phase, declarations, statements, declaring, declared, assigning, looping, entering, printing, printed, reading, over, State, known, state, with_variable, with_action, left_block, statement_step, declaration_step, declaring_step, declared_step, assigning_step, looping_step, entering_step, printing_step, printed_step, semicolon_step, parenthesis_step, end_step, outcome_step, step, then_run, run, beginning, program_at, program_in, body_of, program_from, read_program}
 use Rattle.porch_syntax.proofs.Lists.{append_nothing, append_one}
 use Rattle.porch_syntax.proofs.Shown.{reading_tokens, ReadingGood, StepIs, read_is, fresh_good}
 

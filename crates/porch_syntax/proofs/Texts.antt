@@ -9,7 +9,7 @@ use Rattle.porch_syntax.specs.declared.lexeme.Lexeme.{Lexeme}
 use Rattle.porch_syntax.specs.declared.lexeme.Lexeme.TheVariants.{Fixed, Name, Wrong}
 use Rattle.porch_syntax.specs.Token.{is_space, is_name, reserved, IsSpelling, is_whole, Spells}
 use Rattle.porch_syntax.specs.Language.{IsFresh, AreNames}
-use Rattle.porch_syntax.specs.Lexing.{kind_of, more_of, number_of, with_name, Lexed, behind, lexeme_step, lex}
+use Rattle.porch_syntax.specs.inside.Lexing.{kind_of, more_of, number_of, with_name, Lexed, behind, lexeme_step, lex}
 use Rattle.porch_syntax.proofs.Lists.{append_nothing, append_one}
 use Rattle.porch_syntax.proofs.Numbers.{Numbered}
 use Rattle.porch_syntax.proofs.Lex.{lex_piece, space_step}

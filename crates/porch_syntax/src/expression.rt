@@ -3,7 +3,7 @@
 ghost use Rattle.std.specs.Prelude.{◌≡◌, IfOk};
 ghost use Rattle.std.specs.Option.{option_map};
 ghost use Rattle.porch_syntax.specs.Tree.{node_of};
-ghost use Rattle.porch_syntax.specs.Reading.{part_of, atom_node, factors_of, front_of, frame_of, frames_of, terms_view, reading_of, outcome_of, with_factor, product_of, with_term, sum_of, compared, value_of, opened, closed, ended, measured, at_step, behind_step, read_step, fresh};
+ghost use Rattle.porch_syntax.specs.inside.Reading.{part_of, atom_node, factors_of, front_of, frame_of, frames_of, terms_view, reading_of, outcome_of, with_factor, product_of, with_term, sum_of, compared, value_of, opened, closed, ended, measured, at_step, behind_step, read_step, fresh};
 
 use crate::token::Token;
 use crate::tree::{Expr, Sign};

@@ -4,7 +4,7 @@ ghost use Rattle.std.specs.Prelude.{◌≡◌, ◌≤◌, ◌==◌, ◌&&◌, no
 ghost use Rattle.std.specs.List.{list_any, list_all, prefix_len};
 ghost use Rattle.std.specs.Str.{bytes_eq};
 ghost use Rattle.porch_syntax.specs.Token.{is_between, is_space, is_digit, is_letter, is_word, is_name, is_decimal, reserved};
-ghost use Rattle.porch_syntax.specs.Lexing.{decimal_kind, name_kind, word_kind, mark_kind, quoted_kind, other_kind, kind_of, quoted_more, more_of, length_of};
+ghost use Rattle.porch_syntax.specs.inside.Lexing.{decimal_kind, name_kind, word_kind, mark_kind, quoted_kind, other_kind, kind_of, quoted_more, more_of, length_of};
 
 use crate::token::Token;
 

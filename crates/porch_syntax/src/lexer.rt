@@ -2,7 +2,7 @@
 
 ghost use Rattle.std.specs.Prelude.{◌≡◌, ◌+◌, ◌<◌, ◌≤◌, ◌^◌, [], length, IfOk, IfSome, OnOk};
 ghost use Rattle.std.specs.Option.{option_map};
-ghost use Rattle.porch_syntax.specs.Lexing.{kind_of, number_of, with_name, shown, Taken, lex, behind, gone_on};
+ghost use Rattle.porch_syntax.specs.inside.Lexing.{kind_of, number_of, with_name, shown, Taken, lex, behind, gone_on};
 
 use crate::lexeme::{Lexeme, classify, piece_length, space};
 use crate::token::Token;

@@ -3,7 +3,7 @@
 ghost use Rattle.std.specs.Prelude.{◌≡◌, ◌≤◌, ◌<◌, ◌^◌, ◌⊎◌, length, IfOk, IfErr, MatchResult};
 ghost use Rattle.std.specs.Option.{option_map};
 ghost use Rattle.porch_syntax.specs.Language.{IsSource, IsRefusal};
-ghost use Rattle.porch_syntax.specs.Source.{source_of};
+ghost use Rattle.porch_syntax.specs.inside.Source.{source_of};
 ghost use Rattle.porch_syntax.specs.Tree.{Program, program_of};
 
 use crate::lexer::tokens;

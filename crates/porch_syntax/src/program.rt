@@ -3,7 +3,7 @@
 ghost use Rattle.std.specs.Prelude.{◌≡◌, IfOk};
 ghost use Rattle.std.specs.Option.{option_map};
 ghost use Rattle.porch_syntax.specs.Tree.{program_of};
-ghost use Rattle.porch_syntax.specs.Program.{written_of, phase_of, body_of, program_at, program_in, run, beginning, read_program};
+ghost use Rattle.porch_syntax.specs.inside.Program.{written_of, phase_of, body_of, program_at, program_in, run, beginning, read_program};
 
 use crate::statement::{Phase, Written, advance};
 use crate::token::Token;

@@ -3,8 +3,8 @@
 ghost use Rattle.std.specs.Prelude.{◌≡◌, IfOk, length};
 ghost use Rattle.std.specs.Option.{option_map};
 ghost use Rattle.porch_syntax.specs.Tree.{node_of, action_of};
-ghost use Rattle.porch_syntax.specs.Reading.{reading_of, outcome_of};
-ghost use Rattle.porch_syntax.specs.Program.{written_of, phase_of, after, known, with_variable, with_action, begun, named, named_new, entered, left, statement_step, declaration_step, declaring_step, declared_step, assigning_step, looping_step, entering_step, printing_step, printed_step, semicolon_step, parenthesis_step, end_step, outcome_step, reading_step, step};
+ghost use Rattle.porch_syntax.specs.inside.Reading.{reading_of, outcome_of};
+ghost use Rattle.porch_syntax.specs.inside.Program.{written_of, phase_of, after, known, with_variable, with_action, begun, named, named_new, entered, left, statement_step, declaration_step, declaring_step, declared_step, assigning_step, looping_step, entering_step, printing_step, printed_step, semicolon_step, parenthesis_step, end_step, outcome_step, reading_step, step};
 
 use crate::expression::{Outcome, Reading, beginning, part_at, read};
 use crate::token::Token;

@@ -9,8 +9,6 @@ mod acts;
 mod ranges;
 mod reductions;
 mod results;
-#[cfg(test)]
-mod tests;
 mod widths;
 
 pub use acts::{Act, Op};

@@ -1,5 +1,5 @@
 use Rattle.std.proofs.Common.{ap, ◌∙◌}
-use Rattle.porch_syntax.specs.Lexing.{shown}
+use Rattle.porch_syntax.specs.inside.Lexing.{shown}
 use Rattle.porch_syntax.proofs.Pieces.{with_shown}
 use Rattle.porch_syntax.proofs.lexer.number.Goals as goal
 

@@ -1,5 +1,5 @@
 use Rattle.std.proofs.Common.{◌≡◌, ◌+◌, ◌≤◌, [], length}
-use Rattle.porch_syntax.specs.Lexing.{lex, behind, shown}
+use Rattle.porch_syntax.specs.inside.Lexing.{lex, behind, shown}
 use Rattle.porch_syntax.proofs.lexer.tokens.Given as goal
 
 -- What the text comes to: the tokens so far, and what the rest comes to. There are fewer names than characters.

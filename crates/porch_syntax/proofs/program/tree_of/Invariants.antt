@@ -1,5 +1,5 @@
 use Rattle.std.proofs.Common.{◌≡◌, drop}
-use Rattle.porch_syntax.specs.Program.{written_of, phase_of, run, beginning}
+use Rattle.porch_syntax.specs.inside.Program.{written_of, phase_of, run, beginning}
 use Rattle.porch_syntax.proofs.program.tree_of.Given as goal
 
 -- What the tokens come to from here, they come to from the start.
