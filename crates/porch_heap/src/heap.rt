@@ -2,6 +2,7 @@
 ghost use Rattle.std.specs.Prelude.{◌≡◌, ◌+◌, ◌<◌, ◌≤◌, ◌^◌, ◌⊎◌, ◌↔◌, [], length, IfOk, IfErr, IfSome, IfNone, OnOk, OnErr, OnSome, IsOk, IsTrue};
 ghost use Rattle.porch_heap.specs.Blocks.{HeapState, IsHeap, IsAlignment, IsFirstGap, HasNoGap, IsFullFor, heap_with, heap_without, begins, block_around};
 ghost use Rattle.porch_heap.specs.inside.Searching.{Divides, state};
+ghost use Rattle.porch_heap.specs.Gaps.{place_or_full};
 ghost use Rattle.porch_heap.specs.Chunks.{blocks_of};
 ghost use Rattle.porch_heap.specs.inside.Seats.{IsBefore, number_of};
 ghost use Rattle.porch_heap.specs.inside.Hints.{Keeps};
@@ -112,6 +113,7 @@ impl Heap {
         requires some { 1 ≤ bytes }
         requires bytes { bytes < 2 ^ 62 }
         requires align { IsAlignment align }
+        ensures value { result ≡ place_or_full self.old bytes align }
         ensures first { IfOk result (IsFirstGap self.old bytes align) }
         ensures added { IfOk result (λ at.
             self.new ≡ heap_with (record { at = at; ty = ty; count = count; bytes = bytes }) self.old) }
