@@ -4,6 +4,8 @@ pub mod Leaves
 pub mod Kinds
 -- Rows and subobjects of a root, and the search for a row.
 pub mod Rows
+-- What the part is that holds a leaf.
+pub mod Parts
 -- The type of each leaf.
 pub mod LeafTypes
 -- What stays so in a longer list.

@@ -1,11 +1,13 @@
 //! Laws on lists of types: their kinds, leaves, rows and subobjects.
-ghost use Rattle.std.specs.Prelude.{◌≡◌, ◌≢◌, ◌<◌, ◌≤◌, ◌+◌, ◌*◌, ◌++◌, ◌↔◌, ℕ, List, length, slice_get, Some, None};
+ghost use Rattle.std.specs.Prelude.{◌≡◌, ◌≢◌, ◌<◌, ◌≤◌, ◌+◌, ◌-◌, ◌*◌, ◌++◌, ◌↔◌, ℕ, List, length, slice_get, Some, None};
 ghost use Rattle.porch_types.specs.declared.shapes.Kind.{Kind};
 ghost use Rattle.porch_types.specs.declared.shapes.Ty.{Ty};
 ghost use Rattle.porch_types.specs.Kinds.{kind_number, int_type};
 ghost use Rattle.porch_types.specs.Leaves.{IsTypes, leaf_count, leaves_of};
+ghost use Rattle.porch_types.specs.declared.parts.Part.{Part};
 ghost use Rattle.porch_types.specs.declared.parts.Row.{Row};
-ghost use Rattle.porch_types.specs.Rows.{IsRow, IsRowAt, IsSubobject, moved_row, row_at};
+ghost use Rattle.porch_types.specs.Parts.{HoldsLeaf};
+ghost use Rattle.porch_types.specs.Rows.{IsRow, IsRowAt, IsSubobject, moved_row, part_at, row_at};
 ghost use Rattle.porch_types.specs.LeafTypes.{IsScalar, leaf_type};
 ghost use Rattle.porch_types.specs.Longer.{KeepsTypes};
 
@@ -30,6 +32,29 @@ pub fn leaves_add_up()
 /// What is said of the types of a list stays so where further ones come behind them.
 pub fn earlier_types_stay()
     ensures { (types more : List Ty) → IsTypes types → KeepsTypes types (types ++ more) }
+{}
+
+/// The part that holds a leaf is of an earlier type and lies in the whole. Only integers and pointers
+/// have none.
+pub fn parts_hold_leaves()
+    ensures some { (types : List Ty) (ty leaf : ℕ) (part : Part) → IsTypes types
+        → part_at types ty leaf ≡ Some part → HoldsLeaf types ty leaf part }
+    ensures none { (types : List Ty) (ty leaf : ℕ) → IsTypes types → ty < length types
+        → leaf < leaves_of types ty → part_at types ty leaf ≡ None
+        → IsScalar (slice_get types ty) × (leaf ≡ 0) }
+    ensures scalar { (types : List Ty) (ty leaf : ℕ) → IsScalar (slice_get types ty)
+        → part_at types ty leaf ≡ None }
+{}
+
+/// The type of a leaf is that of its part's leaf, and of an integer or a pointer the type itself.
+pub fn leaf_types_go_by_parts()
+    ensures part { (types : List Ty) (ty leaf : ℕ) (part : Part) → IsTypes types
+        → leaf < leaves_of types ty → part_at types ty leaf ≡ Some part
+        → leaf_type types ty leaf ≡ leaf_type types part.ty (leaf - part.first) }
+    ensures scalar { (types : List Ty) (ty leaf : ℕ) → IsScalar (slice_get types ty)
+        → leaf_type types ty leaf ≡ ty }
+    ensures again { (types : List Ty) (ty leaf elements : ℕ)
+        → leaf_type types ty (elements * leaves_of types ty + leaf) ≡ leaf_type types ty leaf }
 {}
 
 /// The search for a row finds it where there is one, and finds no other.
