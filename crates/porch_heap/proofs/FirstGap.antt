@@ -1,13 +1,13 @@
 -- The first gap and the longest run that the functions give are those of the relations.
-use Rattle.std.proofs.Common.{◌≡◌, ℕ, ◌+◌, ◌-◌, ◌*◌, ◌/◌, ◌%◌, ◌<◌, ◌≤◌, inl, inr, true, false, cond, IsTrue, Option, Some, None, List, [], ◌∷◌, refl, arith, ap, sym, ◌∙◌, subst}
+use Rattle.std.proofs.Common.{◌≡◌, ℕ, ◌+◌, ◌-◌, ◌*◌, ◌/◌, ◌%◌, ◌<◌, ◌≤◌, ◌⊎◌, inl, inr, true, false, cond, IsTrue, Option, Some, None, Result, Ok, Err, Bool, List, [], ◌∷◌, length, refl, arith, ap, sym, ◌∙◌, subst}
 use Rattle.std.specs.Prelude.{nat_lt, is_none}
 use Rattle.std.proofs.lemmas.Bool.Decides.{nat_tests}
 use Rattle.std.proofs.lemmas.Nat.{div-add-mod'}
 use Rattle.std.proofs.Math.Nat.{mul-mod_left, mul-le-mul_right, div-mul-le_self, lt-div-mul-add}
 use Rattle.porch_heap.specs.declared.block.Block.{Block}
 use Rattle.porch_heap.specs.declared.block.HeapFull.{HeapFull}
-use Rattle.porch_heap.specs.Blocks.{HeapState, Each, Stand, IsHeap, IsApart, IsGap, IsFirstGap, HasNoGap, IsLongestRun, IsFullFor}
-use Rattle.porch_heap.specs.Gaps.{round_up, first_between, first_gap, has_no_gap, longest_run, full_for}
+use Rattle.porch_heap.specs.Blocks.{HeapState, Each, Stand, IsHeap, IsApart, IsGap, IsFirstGap, HasNoGap, IsLongestRun, IsFullFor, IsAlignment}
+use Rattle.porch_heap.specs.Gaps.{round_up, first_between, first_gap, has_no_gap, longest_run, full_for, found_or_full, place_or_full}
 use Rattle.porch_heap.proofs.Lists.{each_map, stand_low, stand_end}
 use Rattle.porch_heap.proofs.Runs.{longest_true}
 
@@ -164,3 +164,32 @@ pub full_sound : (h : HeapState) (bytes : ℕ) (fault : HeapFull) → IsHeap h �
 full_sound h bytes fault heap is =
     let there : IsFullFor h bytes (full_for h bytes) = record { asked = refl; largest = run_sound h (longest_run h) heap refl; blocks = refl } in
     subst (IsFullFor h bytes) (sym is) there
+
+-- what a request comes to
+pub some_align : (align : ℕ) → IsAlignment align → 0 < align
+some_align align (inl e) = omega (arith, e)
+some_align align (inr (inl e)) = omega (arith, e)
+some_align align (inr (inr (inl e))) = omega (arith, e)
+some_align align (inr (inr (inr e))) = omega (arith, e)
+
+pub place_found : (h : HeapState) (bytes align at : ℕ) → IsHeap h → IsAlignment align → length h.blocks < 65536 → IsFirstGap h bytes align at → Ok at ≡ place_or_full h bytes align
+place_found h bytes align at heap a few first =
+    let t : nat_lt (length h.blocks) 65536 ≡ true = grind (arith, nat_tests) in
+    let g : first_gap h bytes align ≡ Some at = gap_complete h bytes align at heap (some_align align a) first in
+    sym (ap (λ b. found_or_full h bytes (cond b (first_gap h bytes align) None)) t ∙ ap (found_or_full h bytes) g)
+
+nothing : (b : Bool) (o : Option ℕ) → (b ≡ true → o ≡ None) → cond b o None ≡ None
+nothing true o h = h refl
+nothing false o h = refl
+
+pub none_found : (h : HeapState) (bytes align : ℕ) (fault : HeapFull) → IsHeap h → IsAlignment align → HasNoGap h bytes align ⊎ (length h.blocks ≡ 65536) → IsFullFor h bytes fault
+    → Err fault ≡ place_or_full h bytes align
+none_found h bytes align fault heap a why full =
+    let n : nat_lt (length h.blocks) 65536 ≡ true → first_gap h bytes align ≡ None =
+    λ few. elim why [
+      | inl none ↦ none_complete h bytes align heap (some_align align a) none
+      | inr most ↦ (let less : length h.blocks < 65536 = grind (arith, nat_tests, few) in absurd (omega (arith, less, most)))
+    ] in
+    let e : fault ≡ full_for h bytes = full_complete h bytes fault heap full in
+    let err : HeapFull → Result ℕ HeapFull = Err in
+    ap err e ∙ sym (ap (found_or_full h bytes) (nothing (nat_lt (length h.blocks) 65536) (first_gap h bytes align) n))

@@ -1,5 +1,5 @@
 -- The place of a new block and the longest run of free bytes, as functions of the heap.
-use Rattle.std.specs.Prelude.{◌≡◌, ℕ, ◌+◌, ◌-◌, ◌*◌, ◌/◌, max, nat_lt, Bool, length, slice_get, List, [], ◌∷◌, if◌then◌else◌, Option, Some, None, is_none}
+use Rattle.std.specs.Prelude.{◌≡◌, ℕ, ◌+◌, ◌-◌, ◌*◌, ◌/◌, max, nat_lt, Bool, length, slice_get, List, [], ◌∷◌, if◌then◌else◌, Option, Some, None, is_none, Result, Ok, Err}
 use Rattle.porch_heap.specs.declared.block.Block.{Block}
 use Rattle.porch_heap.specs.declared.block.HeapFull.{HeapFull}
 use Rattle.porch_heap.specs.Blocks.{HeapState}
@@ -36,6 +36,16 @@ longest_run h = longest_between h.base (h.base + h.bytes) h.blocks
 -- what is told of a request that found no place
 abbrev pub full_for : HeapState → ℕ → HeapFull
 full_for h bytes = record { asked = bytes; largest = longest_run h; blocks = length h.blocks }
+
+-- a place that was found, or what is told where there is none
+abbrev pub found_or_full : HeapState → ℕ → Option ℕ → Result ℕ HeapFull
+found_or_full h bytes (Some at) = Ok at
+found_or_full h bytes None = Err (full_for h bytes)
+
+-- what a request comes to: its first gap, unless there is none or 65,536 blocks are live
+abbrev pub place_or_full : HeapState → ℕ → ℕ → Result ℕ HeapFull
+place_or_full h bytes align =
+    found_or_full h bytes (if nat_lt (length h.blocks) 65536 then first_gap h bytes align else None)
 
 -- a block of the list
 abbrev pub IsAmong : List Block → Block → Type 0

@@ -1,3 +1,4 @@
+//! A block, and why a request or a return is refused.
 /// A live block: its type's number, how many values of that type it holds, and where its bytes lie.
 #[derive(Clone, Copy, Debug, PartialEq, Eq)]
 pub struct Block {

@@ -1,3 +1,4 @@
+//! The iterator over the blocks of a heap.
 ghost use Rattle.std.specs.Prelude.{◌≡◌};
 ghost use Rattle.std.specs.Iterator.{YieldsFirstRef, item_count};
 ghost use Rattle.porch_heap.specs.Chunks.{blocks_of};

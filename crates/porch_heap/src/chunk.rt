@@ -1,3 +1,4 @@
+//! Some blocks of a heap that stand one behind the other.
 ghost use Rattle.std.specs.Prelude.{◌≡◌, ◌+◌, ◌*◌, ◌<◌, ◌≤◌, ◌^◌, ◌++◌, [], length, take, drop, insert, remove, IfOk, IfSome, IfNone};
 ghost use Rattle.porch_heap.specs.Blocks.{IsAlignment, Stand};
 ghost use Rattle.porch_heap.specs.inside.Searching.{Divides, Head};
@@ -155,7 +156,8 @@ impl Chunk {
     pub(crate) fn split(&mut self, upper: &mut Chunk)
         requires full { length self.old.blocks ≡ 128 }
         ensures lower { self.new ≡ record { from = self.old.from; blocks = take 64 self.old.blocks } }
-        ensures upper { upper.new ≡ record { from = after self.old.from (take 64 self.old.blocks); blocks = drop 64 self.old.blocks } }
+        ensures upper { upper.new
+            ≡ record { from = after self.old.from (take 64 self.old.blocks); blocks = drop 64 self.old.blocks } }
     {
         upper.blocks.clear();
         let _ = upper

@@ -80,7 +80,8 @@ pub(crate) fn first_seat(
     requires align { IsAlignment align }
     requires index { start.index ≤ length (blocks_at chunks.old start.chunk) }
     requires none { NoRoom align bytes base (blocks_before chunks.old start) }
-    ensures found { IfSome result (λ r. IsFound (blocks_of chunks.old) base bytes align (rank chunks.old r.0.chunk r.0.index) r.1) }
+    ensures found { IfSome result (λ r.
+        IsFound (blocks_of chunks.old) base bytes align (rank chunks.old r.0.chunk r.0.index) r.1) }
     ensures seat { IfSome result (λ r. r.0.index < length (blocks_at chunks.old r.0.chunk)) }
     ensures none { IfNone result (NoRoom align bytes base (blocks_of chunks.old)) }
     ensures same { chunks.new ≡ chunks.old }
@@ -129,7 +130,8 @@ pub(crate) fn widest_of(chunks: &[Chunk], base: u64) -> u64
 pub(crate) fn seat_of(chunks: &[Chunk], base: u64, at: u64) -> Option<Seat>
     requires { Linked base chunks.now }
     ensures found { IfSome result (λ s. s.index < length (blocks_at chunks.now s.chunk)) }
-    ensures begins { IfSome result (λ s. Head (λ b. b.at ≡ at) (drop (rank chunks.now s.chunk s.index) (blocks_of chunks.now))) }
+    ensures begins { IfSome result (λ s.
+        Head (λ b. b.at ≡ at) (drop (rank chunks.now s.chunk s.index) (blocks_of chunks.now))) }
     ensures none { IfNone result (Each (λ b. b.at ≢ at) (blocks_of chunks.now)) }
 {
     let chunk = chunk_of(chunks, base, at);
@@ -146,7 +148,8 @@ pub(crate) fn seat_of(chunks: &[Chunk], base: u64, at: u64) -> Option<Seat>
 pub(crate) fn next_at(chunks: &[Chunk], base: u64, seat: Seat, end: u64) -> u64
     requires linked { Linked base chunks.now }
     requires seat { seat.index < length (blocks_at chunks.now seat.chunk) }
-    ensures { result ≡ stop end (drop (rank chunks.now seat.chunk seat.index + 1) (blocks_of chunks.now)) }
+    ensures { result ≡ stop end (drop (rank chunks.now seat.chunk seat.index + 1)
+        (blocks_of chunks.now)) }
 {
     let blocks = chunks[seat.chunk].blocks();
     if seat.index + 1 < blocks.len() {

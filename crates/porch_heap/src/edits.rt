@@ -21,13 +21,16 @@ pub(crate) fn put_before(
     requires linked { Linked base chunks.old.items }
     requires seat { seat.index < length (blocks_at chunks.old.items seat.chunk) }
     requires low { base ≤ block.at }
-    requires place { Divides (blocks_of chunks.old.items) (rank chunks.old.items seat.chunk seat.index) block.at block.bytes }
+    requires place { Divides (blocks_of chunks.old.items)
+        (rank chunks.old.items seat.chunk seat.index) block.at block.bytes }
     requires high { block.at + block.bytes < 2 ^ 62 }
     requires spare { 0 < vec_len spares.old }
     requires memory { vec_len chunks.old < vec_capacity chunks.old }
-    ensures blocks { blocks_of chunks.new.items ≡ insert (blocks_of chunks.old.items) (rank chunks.old.items seat.chunk seat.index) block }
+    ensures blocks { blocks_of chunks.new.items
+        ≡ insert (blocks_of chunks.old.items) (rank chunks.old.items seat.chunk seat.index) block }
     ensures linked { Linked base chunks.new.items }
-    ensures all { vec_len chunks.new + vec_len spares.new ≡ vec_len chunks.old + vec_len spares.old }
+    ensures all { vec_len chunks.new + vec_len spares.new
+        ≡ vec_len chunks.old + vec_len spares.old }
     ensures memory { vec_capacity chunks.old ≤ vec_capacity chunks.new }
     ensures spares { vec_capacity spares.old ≤ vec_capacity spares.new }
 {
@@ -45,9 +48,11 @@ fn put_in(chunks: &mut [Chunk], base: u64, seat: Seat, block: Block)
     requires seat { seat.index < length (blocks_at chunks.old seat.chunk) }
     requires room { length (blocks_at chunks.old seat.chunk) < 128 }
     requires low { base ≤ block.at }
-    requires place { Divides (blocks_of chunks.old) (rank chunks.old seat.chunk seat.index) block.at block.bytes }
+    requires place { Divides (blocks_of chunks.old)
+        (rank chunks.old seat.chunk seat.index) block.at block.bytes }
     requires high { block.at + block.bytes < 2 ^ 62 }
-    ensures blocks { blocks_of chunks.new ≡ insert (blocks_of chunks.old) (rank chunks.old seat.chunk seat.index) block }
+    ensures blocks { blocks_of chunks.new
+        ≡ insert (blocks_of chunks.old) (rank chunks.old seat.chunk seat.index) block }
     ensures linked { Linked base chunks.new }
 {
     chunks[seat.chunk].insert(seat.index, block);
@@ -65,8 +70,10 @@ fn split(chunks: &mut Vec<Chunk>, spares: &mut Vec<Chunk>, base: u64, seat: Seat
     ensures linked { Linked base chunks.new.items }
     ensures seat { result.index < length (blocks_at chunks.new.items result.chunk) }
     ensures room { length (blocks_at chunks.new.items result.chunk) < 128 }
-    ensures rank { rank chunks.new.items result.chunk result.index ≡ rank chunks.old.items seat.chunk seat.index }
-    ensures all { vec_len chunks.new + vec_len spares.new ≡ vec_len chunks.old + vec_len spares.old }
+    ensures rank { rank chunks.new.items result.chunk result.index
+        ≡ rank chunks.old.items seat.chunk seat.index }
+    ensures all { vec_len chunks.new + vec_len spares.new
+        ≡ vec_len chunks.old + vec_len spares.old }
     ensures memory { vec_capacity chunks.old ≤ vec_capacity chunks.new }
     ensures spares { vec_capacity spares.old ≤ vec_capacity spares.new }
 {
@@ -93,7 +100,8 @@ pub(crate) fn put_last(chunks: &mut Vec<Chunk>, spares: &mut Vec<Chunk>, base: u
     requires memory { vec_len chunks.old < vec_capacity chunks.old }
     ensures blocks { blocks_of chunks.new.items ≡ blocks_of chunks.old.items ++ block ∷ [] }
     ensures linked { Linked base chunks.new.items }
-    ensures all { vec_len chunks.new + vec_len spares.new ≡ vec_len chunks.old + vec_len spares.old }
+    ensures all { vec_len chunks.new + vec_len spares.new
+        ≡ vec_len chunks.old + vec_len spares.old }
     ensures memory { vec_capacity chunks.old ≤ vec_capacity chunks.new }
     ensures spares { vec_capacity spares.old ≤ vec_capacity spares.new }
 {
@@ -115,9 +123,11 @@ pub(crate) fn take_out(chunks: &mut Vec<Chunk>, spares: &mut Vec<Chunk>, base: u
     requires linked { Linked base chunks.old.items }
     requires seat { seat.index < length (blocks_at chunks.old.items seat.chunk) }
     requires memory { vec_len spares.old < vec_capacity spares.old }
-    ensures blocks { blocks_of chunks.new.items ≡ remove (blocks_of chunks.old.items) (rank chunks.old.items seat.chunk seat.index) }
+    ensures blocks { blocks_of chunks.new.items
+        ≡ remove (blocks_of chunks.old.items) (rank chunks.old.items seat.chunk seat.index) }
     ensures linked { Linked base chunks.new.items }
-    ensures all { vec_len chunks.new + vec_len spares.new ≡ vec_len chunks.old + vec_len spares.old }
+    ensures all { vec_len chunks.new + vec_len spares.new
+        ≡ vec_len chunks.old + vec_len spares.old }
     ensures spare { vec_len spares.old ≤ vec_len spares.new }
     ensures memory { vec_capacity chunks.old ≤ vec_capacity chunks.new }
     ensures spares { vec_capacity spares.old ≤ vec_capacity spares.new }
@@ -137,7 +147,8 @@ fn take_from(chunks: &mut [Chunk], base: u64, seat: Seat)
     requires linked { Linked base chunks.old }
     requires seat { seat.index < length (blocks_at chunks.old seat.chunk) }
     requires others { 1 < length (blocks_at chunks.old seat.chunk) }
-    ensures blocks { blocks_of chunks.new ≡ remove (blocks_of chunks.old) (rank chunks.old seat.chunk seat.index) }
+    ensures blocks { blocks_of chunks.new
+        ≡ remove (blocks_of chunks.old) (rank chunks.old seat.chunk seat.index) }
     ensures linked { Linked base chunks.new }
 {
     chunks[seat.chunk].remove(seat.index);
@@ -181,7 +192,8 @@ fn loose(chunks: &[Chunk]) -> usize
     requires all { length chunks.now ≡ 1024 }
     requires few { length (blocks_of chunks.now) ≤ 65536 }
     ensures within { result + 1 < length chunks.now }
-    ensures fits { length (blocks_at chunks.now result) + length (blocks_at chunks.now (result + 1)) ≤ 128 }
+    ensures fits { length (blocks_at chunks.now result)
+        + length (blocks_at chunks.now (result + 1)) ≤ 128 }
 {
     let mut lower = 0;
     while chunks[lower].len() + chunks[lower + 1].len() > CHUNK {

@@ -1,6 +1,8 @@
+//! The heap.
 ghost use Rattle.std.specs.Prelude.{◌≡◌, ◌+◌, ◌<◌, ◌≤◌, ◌^◌, ◌⊎◌, ◌↔◌, [], length, IfOk, IfErr, IfSome, IfNone, OnOk, OnErr, OnSome, IsOk, IsTrue};
 ghost use Rattle.porch_heap.specs.Blocks.{HeapState, IsHeap, IsAlignment, IsFirstGap, HasNoGap, IsFullFor, heap_with, heap_without, begins, block_around};
 ghost use Rattle.porch_heap.specs.inside.Searching.{Divides, state};
+ghost use Rattle.porch_heap.specs.Gaps.{place_or_full};
 ghost use Rattle.porch_heap.specs.Chunks.{blocks_of};
 ghost use Rattle.porch_heap.specs.inside.Seats.{IsBefore, number_of};
 ghost use Rattle.porch_heap.specs.inside.Hints.{Keeps};
@@ -111,11 +113,13 @@ impl Heap {
         requires some { 1 ≤ bytes }
         requires bytes { bytes < 2 ^ 62 }
         requires align { IsAlignment align }
+        ensures value { result ≡ place_or_full self.old bytes align }
         ensures first { IfOk result (IsFirstGap self.old bytes align) }
         ensures added { IfOk result (λ at.
             self.new ≡ heap_with (record { at = at; ty = ty; count = count; bytes = bytes }) self.old) }
         ensures room { OnOk result (length self.old.blocks < 65536) }
-        ensures full { OnErr result (HasNoGap self.old bytes align ⊎ (length self.old.blocks ≡ 65536)) }
+        ensures full { OnErr result (HasNoGap self.old bytes align
+            ⊎ (length self.old.blocks ≡ 65536)) }
         ensures fault { IfErr result (IsFullFor self.old bytes) }
         ensures same { OnErr result (self.new ≡ self.old) }
         ensures valid { IsHeap self.new }
@@ -173,11 +177,15 @@ fn place(live: &mut Row, hints: &mut [Hint; 64], size: u64, bytes: u64, align: u
     requires keeps { Keeps (state live.old.base size (blocks_of live.old.chunks)) hints.old }
     requires bytes { bytes < 2 ^ 62 }
     requires align { IsAlignment align }
-    ensures first { IfSome result (λ p. IsFirstGap (state live.old.base size (blocks_of live.old.chunks)) bytes align p.at) }
-    ensures index { IfSome result (λ p. Divides (blocks_of live.old.chunks) (number_of live.old.chunks p.before) p.at bytes) }
+    ensures first { IfSome result (λ p.
+        IsFirstGap (state live.old.base size (blocks_of live.old.chunks)) bytes align p.at) }
+    ensures index { IfSome result (λ p.
+        Divides (blocks_of live.old.chunks) (number_of live.old.chunks p.before) p.at bytes) }
     ensures seat { IfSome result (λ p. IsBefore live.old.chunks p.before) }
     ensures room { OnSome result (length (blocks_of live.old.chunks) < 65536) }
-    ensures full { IfNone result (HasNoGap (state live.old.base size (blocks_of live.old.chunks)) bytes align ⊎ (length (blocks_of live.old.chunks) ≡ 65536)) }
+    ensures full { IfNone result
+        (HasNoGap (state live.old.base size (blocks_of live.old.chunks)) bytes align
+        ⊎ (length (blocks_of live.old.chunks) ≡ 65536)) }
     ensures same { live.new ≡ live.old }
     ensures keeps { Keeps (state live.old.base size (blocks_of live.old.chunks)) hints.new }
 {

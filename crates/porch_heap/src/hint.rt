@@ -1,3 +1,4 @@
+//! What is known of where there is no place for a request.
 ghost use Rattle.std.specs.Prelude.{◌≡◌, ◌<◌, ◌≤◌, ◌^◌, map};
 ghost use Rattle.porch_heap.specs.Blocks.{IsAlignment};
 ghost use Rattle.porch_heap.specs.inside.Hints.{start_at, lowered};

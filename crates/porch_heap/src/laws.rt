@@ -18,7 +18,8 @@ pub fn first_gap_is_first()
 /// The longest run of free bytes is a function of the heap, and so is what is told of a request that
 /// found no place.
 pub fn longest_run_is_longest()
-    ensures run { (h : HeapState) (count : ℕ) → IsHeap h → IsLongestRun h count ↔ (count ≡ longest_run h) }
+    ensures run { (h : HeapState) (count : ℕ) → IsHeap h → IsLongestRun h count
+        ↔ (count ≡ longest_run h) }
     ensures fault { (h : HeapState) (bytes : ℕ) (fault : HeapFull) → IsHeap h
         → IsFullFor h bytes fault ↔ (fault ≡ full_for h bytes) }
 {}
@@ -30,16 +31,20 @@ pub fn heaps_stay_heaps()
     ensures less { (h : HeapState) (at : ℕ) → IsHeap h → IsHeap (heap_without at h) }
 {}
 
-/// With a block more there are this one and those before, and with one less those that begin elsewhere.
+/// With a block more there are this one and those before, and with one less those that begin
+/// elsewhere.
 pub fn other_blocks_stay()
-    ensures more { (b c : Block) (blocks : List Block) → IsAmong (with_block b blocks) c ↔ ((c ≡ b) ⊎ IsAmong blocks c) }
-    ensures less { (at : ℕ) (c : Block) (blocks : List Block) → IsAmong (without at blocks) c ↔ (IsAmong blocks c × (c.at ≢ at)) }
+    ensures more { (b c : Block) (blocks : List Block) → IsAmong (with_block b blocks) c
+        ↔ ((c ≡ b) ⊎ IsAmong blocks c) }
+    ensures less { (at : ℕ) (c : Block) (blocks : List Block) → IsAmong (without at blocks) c
+        ↔ (IsAmong blocks c × (c.at ≢ at)) }
 {}
 
 /// The blocks of a heap lie in it, and any two of them apart by a byte at least.
 pub fn blocks_lie_apart()
     ensures within { (h : HeapState) (b : Block) → IsHeap h → IsAmong h.blocks b
         → (h.base ≤ b.at) × (b.at + b.bytes < h.base + h.bytes) × HasSome b }
-    ensures apart { (h : HeapState) (b c : Block) → IsHeap h → IsAmong h.blocks b → IsAmong h.blocks c
+    ensures apart { (h : HeapState) (b c : Block) → IsHeap h → IsAmong h.blocks b
+        → IsAmong h.blocks c
         → b ≢ c → IsApart b.at b.bytes c }
 {}

@@ -1,3 +1,4 @@
+//! Searches in a list of blocks.
 ghost use Rattle.std.specs.Prelude.{IsTrue, IsFalse, ◌≡◌, ◌≢◌, ◌+◌, ◌%◌, ◌-◌, ◌⊎◌, ◌<◌, ◌≤◌, ◌^◌, ℕ, length, take, drop, IfOk, IfErr, IfSome, IfNone};
 ghost use Rattle.porch_heap.specs.Blocks.{Each, Stand, IsAlignment, block_around};
 ghost use Rattle.porch_heap.specs.inside.Searching.{EndsBefore, Head};

@@ -1,3 +1,4 @@
+//! The blocks of a heap in a row of chunks.
 ghost use Rattle.std.specs.Prelude.{◌≡◌, ◌≢◌, ◌+◌, ◌-◌, ◌%◌, ◌<◌, ◌≤◌, ◌^◌, ℕ, [], length, insert, remove, take, drop, vec_len, vec_capacity, None, IfOk, IfSome, IfNone};
 ghost use Rattle.porch_heap.specs.Blocks.{Each, IsHeap, IsAlignment, IsGap, IsFirstGap, HasNoGap, block_around};
 ghost use Rattle.porch_heap.specs.Gaps.{longest_between};
@@ -97,7 +98,8 @@ impl Row {
     /// The seat of the block that begins at an address.
     pub(crate) fn seat_of(&self, at: u64) -> Option<Seat>
         ensures found { IfSome result (IsSeat self.now.chunks) }
-        ensures begins { IfSome result (λ s. Head (λ b. b.at ≡ at) (drop (rank self.now.chunks s.chunk s.index) (blocks_of self.now.chunks))) }
+        ensures begins { IfSome result (λ s. Head (λ b. b.at ≡ at)
+            (drop (rank self.now.chunks s.chunk s.index) (blocks_of self.now.chunks))) }
         ensures none { IfNone result (Each (λ b. b.at ≢ at) (blocks_of self.now.chunks)) }
     {
         seat_of(self.chunks.as_slice(), self.base, at)
@@ -115,11 +117,15 @@ impl Row {
         requires heap { IsHeap (state self.old.base size (blocks_of self.old.chunks)) }
         requires bytes { bytes < 2 ^ 62 }
         requires align { IsAlignment align }
-        requires none { (at : ℕ) → at < from → IsGap (state self.old.base size (blocks_of self.old.chunks)) bytes align at → ⊥ }
-        ensures first { IfSome result (λ p. IsFirstGap (state self.old.base size (blocks_of self.old.chunks)) bytes align p.at) }
-        ensures index { IfSome result (λ p. Divides (blocks_of self.old.chunks) (number_of self.old.chunks p.before) p.at bytes) }
+        requires none { (at : ℕ) → at < from
+            → IsGap (state self.old.base size (blocks_of self.old.chunks)) bytes align at → ⊥ }
+        ensures first { IfSome result (λ p.
+            IsFirstGap (state self.old.base size (blocks_of self.old.chunks)) bytes align p.at) }
+        ensures index { IfSome result (λ p.
+            Divides (blocks_of self.old.chunks) (number_of self.old.chunks p.before) p.at bytes) }
         ensures seat { IfSome result (λ p. IsBefore self.old.chunks p.before) }
-        ensures full { IfNone result (HasNoGap (state self.old.base size (blocks_of self.old.chunks)) bytes align) }
+        ensures full { IfNone result
+            (HasNoGap (state self.old.base size (blocks_of self.old.chunks)) bytes align) }
         ensures same { self.new ≡ self.old }
     {
         let start = seat_behind(self.chunks.as_slice(), self.base, from);
@@ -141,7 +147,8 @@ impl Row {
     /// The longest run of free bytes among so many from the base on.
     pub(crate) fn longest_run(&self, size: u64) -> u64
         requires { IsHeap (state self.now.base size (blocks_of self.now.chunks)) }
-        ensures { result ≡ longest_between self.now.base (self.now.base + size) (blocks_of self.now.chunks) }
+        ensures { result ≡ longest_between self.now.base (self.now.base + size)
+            (blocks_of self.now.chunks) }
     {
         let behind = behind_all(self.chunks.as_slice(), self.base);
         widest_of(self.chunks.as_slice(), self.base).max(self.base + size - behind)
@@ -150,8 +157,10 @@ impl Row {
     /// The bytes, up to an end, that are free in a row once the block of a seat is gone.
     pub(crate) fn gap(&self, seat: Seat, end: u64) -> Gap
         requires { IsSeat self.now.chunks seat }
-        ensures from { result.from ≡ after self.now.base (take (rank self.now.chunks seat.chunk seat.index) (blocks_of self.now.chunks)) }
-        ensures bytes { stop end (drop (rank self.now.chunks seat.chunk seat.index + 1) (blocks_of self.now.chunks)) ≤ result.from + result.bytes }
+        ensures from { result.from ≡ after self.now.base
+            (take (rank self.now.chunks seat.chunk seat.index) (blocks_of self.now.chunks)) }
+        ensures bytes { stop end (drop (rank self.now.chunks seat.chunk seat.index + 1)
+            (blocks_of self.now.chunks)) ≤ result.from + result.bytes }
     {
         let chunk = &self.chunks[seat.chunk];
         let from = free_before(chunk.blocks(), chunk.from(), seat.index);
@@ -166,11 +175,13 @@ impl Row {
     pub(crate) fn insert(&mut self, before: Option<Seat>, block: Block)
         requires seat { IsBefore self.old.chunks before }
         requires low { self.old.base ≤ block.at }
-        requires place { Divides (blocks_of self.old.chunks) (number_of self.old.chunks before) block.at block.bytes }
+        requires place { Divides (blocks_of self.old.chunks)
+            (number_of self.old.chunks before) block.at block.bytes }
         requires high { block.at + block.bytes < 2 ^ 62 }
         requires room { length (blocks_of self.old.chunks) < 65536 }
         ensures base { self.new.base ≡ self.old.base }
-        ensures blocks { blocks_of self.new.chunks ≡ insert (blocks_of self.old.chunks) (number_of self.old.chunks before) block }
+        ensures blocks { blocks_of self.new.chunks
+            ≡ insert (blocks_of self.old.chunks) (number_of self.old.chunks before) block }
     {
         put(&mut self.chunks, &mut self.spares, self.base, before, block);
         self.count += 1;
@@ -180,7 +191,8 @@ impl Row {
     pub(crate) fn remove(&mut self, seat: Seat)
         requires seat { IsSeat self.old.chunks seat }
         ensures base { self.new.base ≡ self.old.base }
-        ensures blocks { blocks_of self.new.chunks ≡ remove (blocks_of self.old.chunks) (rank self.old.chunks seat.chunk seat.index) }
+        ensures blocks { blocks_of self.new.chunks
+            ≡ remove (blocks_of self.old.chunks) (rank self.old.chunks seat.chunk seat.index) }
     {
         take_out(&mut self.chunks, &mut self.spares, self.base, seat);
         self.count -= 1;
@@ -212,14 +224,20 @@ fn put(
     before: Option<Seat>,
     block: Block,
 )
-    requires row { IsRow base (length (blocks_of chunks.old.items)) chunks.old.items (vec_len chunks.old) (vec_len spares.old) (vec_capacity chunks.old) (vec_capacity spares.old) }
+    requires row { IsRow base (length (blocks_of chunks.old.items)) chunks.old.items
+        (vec_len chunks.old) (vec_len spares.old) (vec_capacity chunks.old)
+        (vec_capacity spares.old) }
     requires seat { IsBefore chunks.old.items before }
     requires low { base ≤ block.at }
-    requires place { Divides (blocks_of chunks.old.items) (number_of chunks.old.items before) block.at block.bytes }
+    requires place { Divides (blocks_of chunks.old.items)
+        (number_of chunks.old.items before) block.at block.bytes }
     requires high { block.at + block.bytes < 2 ^ 62 }
     requires room { length (blocks_of chunks.old.items) < 65536 }
-    ensures blocks { blocks_of chunks.new.items ≡ insert (blocks_of chunks.old.items) (number_of chunks.old.items before) block }
-    ensures row { IsRow base (length (blocks_of chunks.new.items)) chunks.new.items (vec_len chunks.new) (vec_len spares.new) (vec_capacity chunks.new) (vec_capacity spares.new) }
+    ensures blocks { blocks_of chunks.new.items
+        ≡ insert (blocks_of chunks.old.items) (number_of chunks.old.items before) block }
+    ensures row { IsRow base (length (blocks_of chunks.new.items)) chunks.new.items
+        (vec_len chunks.new) (vec_len spares.new) (vec_capacity chunks.new)
+        (vec_capacity spares.new) }
 {
     match before {
         Some(seat) => put_before(chunks, spares, base, seat, block),

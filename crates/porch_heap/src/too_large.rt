@@ -1,3 +1,4 @@
+//! Which requests have no place in a chunk.
 ghost use Rattle.std.specs.Prelude.{◌≡◌, max, ℕ, List};
 ghost use Rattle.porch_heap.specs.declared.block.Block.{Block};
 ghost use Rattle.porch_heap.specs.Blocks.{IsAlignment};
@@ -26,7 +27,8 @@ impl TooLarge {
     /// The bytes of an alignment.
     pub(crate) fn at(self, align: u64) -> u64
         requires { IsAlignment align }
-        ensures { (from : ℕ) (blocks : List Block) → AreTooLarge from blocks self → NoRoom align result from blocks }
+        ensures { (from : ℕ) (blocks : List Block) → AreTooLarge from blocks self
+            → NoRoom align result from blocks }
     {
         match align {
             1 => self.one,
@@ -39,7 +41,8 @@ impl TooLarge {
     /// With other bytes for an alignment.
     pub(crate) fn with(self, align: u64, bytes: u64) -> TooLarge
         requires { IsAlignment align }
-        ensures { (from : ℕ) (blocks : List Block) → AreTooLarge from blocks self → NoRoom align bytes from blocks → AreTooLarge from blocks result }
+        ensures { (from : ℕ) (blocks : List Block) → AreTooLarge from blocks self
+            → NoRoom align bytes from blocks → AreTooLarge from blocks result }
     {
         match align {
             1 => TooLarge { one: bytes, ..self },

@@ -5,7 +5,8 @@ use Rattle.std.proofs.lemmas.Option.{slice_get-map, slice_get_read}
 use Rattle.porch_types.specs.declared.shapes.Ty.{Ty}
 use Rattle.porch_types.specs.declared.entries.Entry.{Entry}
 use Rattle.porch_types.specs.Leaves.{AreFormed, leaf_counts, leaves_of, kind_types}
-use Rattle.porch_types.specs.Kept.{IsKept, AreEntries, types_of, starts_of, content, contents}
+use Rattle.porch_types.specs.Entries.{types_of}
+use Rattle.porch_types.specs.inside.Kept.{IsKept, AreEntries, starts_of, content, contents}
 use Rattle.porch_types.proofs.Putting.{map_end}
 
 map_twice : {A B C : Type 0} (f : A → B) (g : B → C) (xs : List A) → map (λ x. g (f x)) xs ≡ map g (map f xs)

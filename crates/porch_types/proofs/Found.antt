@@ -4,7 +4,7 @@ use Rattle.std.proofs.lemmas.Bool.{lt-ltb, le-ltb}
 use Rattle.porch_types.specs.declared.parts.Part.{Part}
 use Rattle.porch_types.specs.Rows.{member_at}
 use Rattle.porch_types.specs.Leaves.{leaves_together}
-use Rattle.porch_types.specs.Kept.{starts_from}
+use Rattle.porch_types.specs.inside.Kept.{starts_from}
 
 starts_above : (f : ℕ → ℕ) (ms : List ℕ) (first i : ℕ) → i < length ms → first ≤ get_or (starts_from f first ms) i 0
 starts_above f [] first i lt = absurd (omega arith)

@@ -69,7 +69,7 @@ member_end f (m ∷ ms) index first place part h =
       | false ↦ λ t e. member_end f ms (index + 1) (first + f m) place part e
     ] refl h
 
-type_end : (types : List Ty) (ty place : ℕ) (o : Option Ty) (part : Part) → AreFormed types → slice_get types ty ≡ o → part_of types o place ≡ Some part → place < part.first + leaves_of types part.ty
+pub type_end : (types : List Ty) (ty place : ℕ) (o : Option Ty) (part : Part) → AreFormed types → slice_get types ty ≡ o → part_of types o place ≡ Some part → place < part.first + leaves_of types part.ty
 type_end types ty place None part formed at h = cc
 type_end types ty place (Some (Whole kind)) part formed at h = cc
 type_end types ty place (Some (Pointer to)) part formed at h = cc
@@ -96,11 +96,11 @@ no_member f (m ∷ ms) index first place lt low h =
       | false ↦ λ t e. no_member f ms (index + 1) (first + f m) place (omega (arith, lt)) (grind (arith, nat_tests)) e
     ] refl h
 
-record EndsHere (o : Option Ty) (place : ℕ) : Type 0 where
+pub record EndsHere (o : Option Ty) (place : ℕ) : Type 0 where
   pub scalar : IsScalar o
   pub first : place ≡ 0
 
-without_parts : (types : List Ty) (ty place : ℕ) (o : Option Ty) → AreFormed types → ty < length types → place < leaves_of types ty → slice_get types ty ≡ o → part_of types o place ≡ None → EndsHere o place
+pub without_parts : (types : List Ty) (ty place : ℕ) (o : Option Ty) → AreFormed types → ty < length types → place < leaves_of types ty → slice_get types ty ≡ o → part_of types o place ≡ None → EndsHere o place
 without_parts types ty place None formed known lt at h =
     let e : slice_get types ty ≡ Some (get_or types ty (Pointer 0)) = slice_get-get_or types ty (Pointer 0) known in
     cc

@@ -7,7 +7,8 @@ use Rattle.porch_types.specs.declared.shapes.Ty.TheVariants.{Array, Struct}
 use Rattle.porch_types.specs.declared.entries.Entry.{Entry}
 use Rattle.porch_types.specs.Leaves.{parts_of, width_of, leaf_count, leaves_together, leaves_of, IsFormed}
 use Rattle.porch_types.specs.Rows.{part_at, part_of}
-use Rattle.porch_types.specs.Kept.{IsKept, types_of, starts_of, starts_from}
+use Rattle.porch_types.specs.Entries.{types_of}
+use Rattle.porch_types.specs.inside.Kept.{IsKept, starts_of, starts_from}
 use Rattle.porch_types.proofs.Counts.{leaves_is, leaves_some}
 
 pub record EntryAt (entries : List Entry) (n : ℕ) (entry : Entry) : Type 0 where

@@ -2,17 +2,18 @@
 use Rattle.std.proofs.Common.{◌≡◌, ◌≢◌, ℕ, suc, ◌+◌, ◌-◌, ◌*◌, ◌/◌, ◌%◌, ◌<◌, ◌≤◌, ◌⊎◌, inl, inr, List, length, slice_get, Option, Some, None, refl, arith, ap, sym, ◌∙◌, subst, take}
 use Rattle.std.specs.Option.{option_map_or}
 use Rattle.std.proofs.lemmas.Nat.{div-add-mod', mod-mul-add}
-use Rattle.std.proofs.Math.Nat.{div-lt_iff_lt-mul, mod-lt, mod-eq_of_lt}
+use Rattle.std.proofs.Math.Nat.{div-lt_iff_lt-mul, mod-lt, mod-eq_of_lt, mul-add-mod_self_right}
 use Rattle.porch_types.specs.declared.shapes.Ty.{Ty}
 use Rattle.porch_types.specs.declared.shapes.Ty.TheVariants.{Whole, Pointer, Array, Struct}
 use Rattle.porch_types.specs.declared.parts.Part.{Part}
 use Rattle.porch_types.specs.declared.parts.Row.{Row}
 use Rattle.porch_types.specs.Leaves.{AreFormed, leaves_of, leaves_together}
 use Rattle.porch_types.specs.Rows.{IsRow, elements_of_root, elements_of_array, member_of_struct, IsRowAt, IsSubobject, part_at, part_of, moved_row}
+use Rattle.porch_types.specs.Parts.{HoldsLeaf}
 use Rattle.porch_types.specs.LeafTypes.{IsScalar, leaf_type, leaf_type_within}
 use Rattle.porch_types.proofs.Counts.{leaves_is, leaves_some}
-use Rattle.porch_types.proofs.LeafTypes.{leaf_down}
-use Rattle.porch_types.proofs.Subobjects.{element_is, member_is, times_le, together_le, row_known}
+use Rattle.porch_types.proofs.LeafTypes.{leaf_down, part_earlier, type_end}
+use Rattle.porch_types.proofs.Subobjects.{Stands, inner, element_is, member_is, times_le, together_le, row_known}
 
 -- a row lies inside its root
 pub row_inside : (types : List Ty) (root count ty first len : ℕ) → AreFormed types → IsRow types root count ty first len → first + len * leaves_of types ty ≤ count * leaves_of types root
@@ -161,7 +162,7 @@ leaf_in_subobject types root count place ty leaf formed s lt =
     ∙ ap (leaf_type_within (suc ty) types ty) (sym (mod-eq_of_lt lt))
 
 -- one integer or pointer at a leaf
-no_parts : (types : List Ty) (o : Option Ty) (leaf : ℕ) → IsScalar o → part_of types o leaf ≡ None
+pub no_parts : (types : List Ty) (o : Option Ty) (leaf : ℕ) → IsScalar o → part_of types o leaf ≡ None
 no_parts types None leaf h = absurd h
 no_parts types (Some (Whole kind)) leaf h = refl
 no_parts types (Some (Pointer to)) leaf h = refl
@@ -178,3 +179,36 @@ one_scalar types root count leaf ty formed known s scalar =
     let h : leaf_type types root (row.first + k * l + 0) ≡ leaf_type_within (suc ty) types ty 0 = has_leaves types root count ty row.first row.len formed s.1.is_row k 0 s.1.element.1 some in
     let end : leaf_type_within (suc ty) types ty 0 ≡ ty = ap (λ o. option_map_or (λ part. leaf_type_within ty types part.ty (0 - part.first)) o ty) (no_parts types (slice_get types ty) 0 scalar) in
     sym (ap (leaf_type types root) (sym e) ∙ h ∙ end)
+
+-- the part that holds a leaf
+pub holds_leaf : (types : List Ty) (ty leaf : ℕ) (part : Part) → AreFormed types → part_at types ty leaf ≡ Some part → HoldsLeaf types ty leaf part
+holds_leaf types ty leaf part formed at =
+    let s : Stands types ty 1 0 part × (part.first ≤ leaf) = inner types ty 1 0 ty 0 1 0 leaf (slice_get types ty) part elements_of_root (omega arith) (omega arith) refl at in
+    let z : 0 + part.row.first ≡ part.row.first = omega arith in
+    let row : IsRow types ty 1 part.ty part.row.first part.row.len = subst (λ x. IsRow types ty 1 part.ty x part.row.len) z s.0.row in
+    let inside : part.row.first + part.row.len * leaves_of types part.ty ≤ 1 * leaves_of types ty = row_inside types ty 1 part.ty part.row.first part.row.len formed row in
+    let end : s.0.k * leaves_of types part.ty + leaves_of types part.ty ≤ part.row.len * leaves_of types part.ty = times_le s.0.k part.row.len (leaves_of types part.ty) s.0.within in
+    record {
+      earlier = part_earlier types ty leaf part formed at;
+      begun = s.1;
+      not_ended = type_end types ty leaf (slice_get types ty) part formed refl at;
+      within = omega (arith, s.0.first, inside, end);
+      row = record { is_row = row; element = (s.0.k, s.0.within, s.0.first) };
+    }
+
+-- the type of a leaf goes by its part
+pub leaf_of_part : (types : List Ty) (ty leaf : ℕ) (part : Part) → AreFormed types → leaf < leaves_of types ty → part_at types ty leaf ≡ Some part
+    → leaf_type types ty leaf ≡ leaf_type types part.ty (leaf - part.first)
+leaf_of_part types ty leaf part formed lt at =
+    let h : HoldsLeaf types ty leaf part = holds_leaf types ty leaf part formed at in
+    let inside : leaf - part.first < leaves_of types part.ty = omega (arith, h.begun, h.not_ended) in
+    ap (leaf_type_within (suc ty) types ty) (mod-eq_of_lt lt) ∙ leaf_down types ty leaf part formed at
+    ∙ ap (leaf_type_within (suc part.ty) types part.ty) (sym (mod-eq_of_lt inside))
+
+pub leaf_of_scalar : (types : List Ty) (ty leaf : ℕ) → IsScalar (slice_get types ty) → leaf_type types ty leaf ≡ ty
+leaf_of_scalar types ty leaf scalar =
+    let r = leaf % leaves_of types ty in
+    ap (λ o. option_map_or (λ part. leaf_type_within ty types part.ty (r - part.first)) o ty) (no_parts types (slice_get types ty) r scalar)
+
+pub leaf_again : (types : List Ty) (ty leaf elements : ℕ) → leaf_type types ty (elements * leaves_of types ty + leaf) ≡ leaf_type types ty leaf
+leaf_again types ty leaf elements = ap (leaf_type_within (suc ty) types ty) (mul-add-mod_self_right elements (leaves_of types ty) leaf)

@@ -10,7 +10,8 @@ use Rattle.porch_types.specs.declared.shapes.Ty.{Ty}
 use Rattle.porch_types.specs.declared.shapes.Ty.TheVariants.{Whole, Pointer, Array, Struct}
 use Rattle.porch_types.specs.declared.entries.Entry.{Entry}
 use Rattle.porch_types.specs.Leaves.{parts_of, width_of, leaf_count, leaf_counts, leaves_of, AreFormed, IsFormed, MOST_LEAVES, kind_types}
-use Rattle.porch_types.specs.Kept.{IsKept, IsNext, types_of, starts_of, starts_from}
+use Rattle.porch_types.specs.Entries.{types_of}
+use Rattle.porch_types.specs.inside.Kept.{IsKept, IsNext, starts_of, starts_from}
 use Rattle.porch_types.proofs.Counts.{counts_split, length-counts, leaves_kept}
 
 pub map_end : {A B : Type 0} (f : A → B) (xs : List A) (y : A) → map f (xs ++ y ∷ []) ≡ map f xs ++ f y ∷ []

@@ -1,13 +1,17 @@
--- types and the numbers of their leaves
+-- Types as a list, and the leaves of each.
 pub mod Leaves
--- the numbers of the kinds
+-- The numbers of the kinds, and that of int.
 pub mod Kinds
--- rows, subobjects and shared ends
+-- Rows and subobjects of a root, and the search for a row.
 pub mod Rows
--- the type of each leaf
+-- What the part is that holds a leaf.
+pub mod Parts
+-- The type of each leaf.
 pub mod LeafTypes
--- what longer lists of types keep
+-- What stays so in a longer list.
 pub mod Longer
--- what `add` answers
+-- What a list of types refuses.
 pub mod Adding
-pub mod Kept
+-- The types that entries hold, as which contracts see a list.
+pub mod Entries
+pub mod inside

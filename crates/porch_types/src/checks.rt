@@ -1,8 +1,10 @@
+//! Whether a type may come next in a list, and what is kept of it.
 ghost use Rattle.std.specs.Prelude.{◌≡◌, ◌<◌, ◌≤◌, ◌+◌, ◌-◌, ◌^◌, Some, None, IfErr, [], ◌++◌, ◌∷◌, length, min, All, OnOk, OnErr, IfOk, IfNone, nat_le};
 ghost use Rattle.std.specs.List.{find};
 ghost use Rattle.porch_types.specs.Leaves.{leaves_of, leaf_count, leaves_together, parts_of, width_of, MOST_LEAVES};
 ghost use Rattle.porch_types.specs.Adding.{later_part, add_fault};
-ghost use Rattle.porch_types.specs.Kept.{IsKept, IsNext, types_of, starts_from, starts_of};
+ghost use Rattle.porch_types.specs.Entries.{types_of};
+ghost use Rattle.porch_types.specs.inside.Kept.{IsKept, IsNext, starts_from, starts_of};
 
 use crate::entries::{Entry, leaves_at};
 use crate::shapes::Ty;
@@ -45,7 +47,8 @@ fn width(ty: &Ty) -> usize
 fn member_leaves(entries: &[Entry], members: &[u32]) -> u64
     requires kept { IsKept entries.now }
     requires earlier { All (λ part. part < length entries.now) members.now }
-    ensures { result ≡ min (leaves_together (leaves_of (types_of entries.now)) members.now) (2 ^ 64 - 1) }
+    ensures { result ≡ min (leaves_together (leaves_of (types_of entries.now)) members.now)
+        (2 ^ 64 - 1) }
 {
     let mut sum = 0u64;
     for member in members {
@@ -74,7 +77,8 @@ pub(crate) fn checked_leaves(entries: &[Entry], ty: &Ty) -> Result<u64, TypeFaul
     requires few { length entries.now < 2 ^ 31 }
     ensures ok { OnOk result (add_fault (types_of entries.now) ty.now ≡ None) }
     ensures err { IfErr result (λ fault. add_fault (types_of entries.now) ty.now ≡ Some fault) }
-    ensures leaves { IfOk result (λ leaves. leaves ≡ leaf_count (leaves_of (types_of entries.now)) ty.now) }
+    ensures leaves { IfOk result
+        (λ leaves. leaves ≡ leaf_count (leaves_of (types_of entries.now)) ty.now) }
     ensures small { IfOk result (λ leaves. leaves ≤ MOST_LEAVES) }
     ensures occupied { OnOk result (0 < width_of ty.now) }
     ensures earlier { OnOk result (All (λ part. part < length entries.now) (parts_of ty.now)) }
@@ -97,7 +101,8 @@ fn member_starts(alloc: Global, entries: &[Entry], members: &[u32]) -> Result<Ve
     requires kept { IsKept entries.now }
     requires earlier { All (λ part. part < length entries.now) members.now }
     requires small { leaves_together (leaves_of (types_of entries.now)) members.now ≤ MOST_LEAVES }
-    ensures { IfOk result (λ v. v.items ≡ starts_from (leaves_of (types_of entries.now)) 0 members.now) }
+    ensures { IfOk result
+        (λ v. v.items ≡ starts_from (leaves_of (types_of entries.now)) 0 members.now) }
 {
     let mut starts = Vec::with_capacity(alloc, members.len())?;
     let mut next = 0;
@@ -127,7 +132,8 @@ pub(crate) fn type_starts(alloc: Global, entries: &[Entry], ty: &Ty) -> Result<V
 pub(crate) fn put(entries: &mut Vec<Entry>, entry: Entry) -> Result<(), AllocError>
     requires kept { IsKept entries.old.items }
     requires next { IsNext entries.old.items entry }
-    ensures ok { OnOk result (types_of entries.new.items ≡ types_of entries.old.items ++ entry.ty ∷ []) }
+    ensures ok { OnOk result (types_of entries.new.items
+        ≡ types_of entries.old.items ++ entry.ty ∷ []) }
     ensures kept { IsKept entries.new.items }
     ensures err { OnErr result (entries.new.items ≡ entries.old.items) }
 {

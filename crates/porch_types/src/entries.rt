@@ -1,7 +1,9 @@
+//! Types with the numbers of their leaves, and the part that holds a leaf.
 ghost use Rattle.std.specs.Prelude.{◌≡◌, ◌<◌, ◌≤◌, ◌+◌, length, Some, None, IfSome, IfOk};
 ghost use Rattle.porch_types.specs.Rows.{part_at, row_at};
 ghost use Rattle.porch_types.specs.Leaves.{leaves_of};
-ghost use Rattle.porch_types.specs.Kept.{IsKept, content, contents, types_of};
+ghost use Rattle.porch_types.specs.Entries.{types_of};
+ghost use Rattle.porch_types.specs.inside.Kept.{IsKept, content, contents};
 
 use crate::parts::{Part, Row, element, member};
 use crate::shapes::Ty;

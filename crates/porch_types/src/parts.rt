@@ -1,6 +1,7 @@
+//! Rows and parts, and which element or member holds a leaf.
 ghost use Rattle.std.specs.Prelude.{◌≡◌, ◌<◌, ◌≤◌, ◌+◌, ◌==◌, ◌&&◌, ℕ, length, slice_get, slice_index, Some, None, IfSome};
 ghost use Rattle.porch_types.specs.Rows.{element_at, member_at};
-ghost use Rattle.porch_types.specs.Kept.{starts_from};
+ghost use Rattle.porch_types.specs.inside.Kept.{starts_from};
 ghost use Rattle.porch_types.specs.Leaves.{leaves_together};
 
 /// Elements of one type that stand after each other: the first leaf, and how many elements.
@@ -70,7 +71,8 @@ pub(crate) fn member(members: &[u32], starts: &[u64], leaves: u64, place: u64) -
     requires some { 0 < length members.now }
     requires each { length starts.now ≡ length members.now }
     requires first { slice_index starts.now 0 ≡ 0 }
-    ensures value { (f : ℕ → ℕ) → starts.now ≡ starts_from f 0 members.now → leaves ≡ leaves_together f members.now → result ≡ member_at f members.now 0 0 place }
+    ensures value { (f : ℕ → ℕ) → starts.now ≡ starts_from f 0 members.now
+        → leaves ≡ leaves_together f members.now → result ≡ member_at f members.now 0 0 place }
     ensures ty { IfSome result (λ part. slice_get members.now part.index ≡ Some part.ty) }
     ensures begun { IfSome result (λ part. part.first ≤ place) }
     ensures row { IfSome result (λ part. part.row.first ≤ part.first) }

@@ -1,7 +1,9 @@
+//! Searches down the parts of a root: a row, a leaf's type, a shared end.
 ghost use Rattle.std.specs.Prelude.{◌≡◌, ◌<◌, length};
 ghost use Rattle.porch_types.specs.Rows.{row_at, has_shared_end};
 ghost use Rattle.porch_types.specs.LeafTypes.{leaf_type};
-ghost use Rattle.porch_types.specs.Kept.{IsKept, types_of};
+ghost use Rattle.porch_types.specs.Entries.{types_of};
+ghost use Rattle.porch_types.specs.inside.Kept.{IsKept};
 
 use crate::entries::{Entry, leaves_at, part_in};
 use crate::parts::{Row, element, is_at};

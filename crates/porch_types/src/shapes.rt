@@ -1,3 +1,4 @@
+//! Kinds and types.
 ghost use Rattle.std.specs.Prelude.{◌≡◌, ◌<◌, IfOk};
 ghost use Rattle.porch_types.specs.Kinds.{kind_number};
 

@@ -1,9 +1,11 @@
+//! The list of types.
 ghost use Rattle.std.specs.Prelude.{◌≡◌, ◌<◌, ◌≤◌, ◌^◌, ◌+◌, ◌++◌, ◌∷◌, [], ◌↔◌, ℕ, List, length, slice_get, Some, None, IsTrue, IfOk, IfErr, IfSome, IfNone, OnOk, OnErr};
 ghost use Rattle.porch_types.specs.Leaves.{leaves_of, kind_types, IsTypes};
 ghost use Rattle.porch_types.specs.Rows.{IsRowAt, IsSubobject, IsSharedEnd, part_at, row_at, has_shared_end};
 ghost use Rattle.porch_types.specs.LeafTypes.{IsScalar, leaf_type};
 ghost use Rattle.porch_types.specs.Adding.{IsRefusal, add_fault};
-ghost use Rattle.porch_types.specs.Kept.{IsKept, types_of};
+ghost use Rattle.porch_types.specs.Entries.{types_of};
+ghost use Rattle.porch_types.specs.inside.Kept.{IsKept};
 ghost use Rattle.porch_types.specs.declared.types.TypeFault.TheVariants.{NoMemory};
 
 use crate::checks::{checked_leaves, put, type_starts};
@@ -48,7 +50,8 @@ pub struct Types {
 impl Model for Types {
     ghost use Rattle.std.specs.Prelude.{List};
     ghost use Rattle.porch_types.specs.declared.shapes.Ty.{Ty};
-    ghost use Rattle.porch_types.specs.Kept.{AreEntries, types_of};
+    ghost use Rattle.porch_types.specs.Entries.{types_of};
+    ghost use Rattle.porch_types.specs.inside.Kept.{AreEntries};
 
     ghost Value = { List Ty };
 
@@ -136,7 +139,8 @@ impl Types {
         part_in(&self.entries, ty, leaf)
     }
 
-    /// The type of a leaf, an integer or a pointer. Leaves count on over elements of the type in a row.
+    /// The type of a leaf, an integer or a pointer. Leaves count on over elements of the type in a
+    /// row.
     pub fn leaf_type(&self, ty: u32, leaf: u64) -> u32
         requires { ty < length self.now }
         ensures value { result ≡ leaf_type self.now ty leaf }
@@ -171,12 +175,15 @@ impl Types {
 
 /// Of one type at most one subobject begins at a leaf of a root, so it stands in one row.
 pub fn subobjects_are_one()
-    ensures { (types : List Ty) (root count place pointee : ℕ) (a b : Row) → IsTypes types → root < length types → IsRowAt types root count place pointee a → IsRowAt types root count place pointee b → a ≡ b }
+    ensures { (types : List Ty) (root count place pointee : ℕ) (a b : Row) → IsTypes types
+        → root < length types → IsRowAt types root count place pointee a
+        → IsRowAt types root count place pointee b → a ≡ b }
 {}
 
 fn put_kind(alloc: Global, entries: &mut Vec<Entry>, kind: Kind) -> Result<(), AllocError>
     requires { IsKept entries.old.items }
-    ensures ok { OnOk result (types_of entries.new.items ≡ types_of entries.old.items ++ Ty.Whole kind ∷ []) }
+    ensures ok { OnOk result (types_of entries.new.items
+        ≡ types_of entries.old.items ++ Ty.Whole kind ∷ []) }
     ensures kept { IsKept entries.new.items }
 {
     let entry = Entry {

@@ -1,3 +1,4 @@
+//! Acts that C leaves undefined, and operators.
 /// An act that C leaves undefined, or whose result depends on the width of `long`.
 #[derive(Clone, Copy, Debug, PartialEq, Eq)]
 pub enum Act {

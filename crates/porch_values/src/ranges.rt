@@ -1,3 +1,4 @@
+//! The least and greatest values of each kind.
 ghost use Rattle.std.specs.Prelude.{◌≡◌, ◌⊎◌, ℕ};
 ghost use Rattle.porch_values.specs.Integers.{least_of, greatest_of, in_range, is_operand_kind, is_right_of, is_value_of};
 

@@ -1,3 +1,4 @@
+//! Numbers reduced to a kind.
 ghost use Rattle.std.specs.Prelude.{◌≡◌};
 ghost use Rattle.porch_values.specs.Integers.{low_bits, signed_bits, as_long_of, as_int_of, as_ulong_of, converted, reduced};
 

@@ -1,3 +1,4 @@
+//! Results of operators, conversions and complements.
 ghost use Rattle.std.specs.Prelude.{◌≡◌, ◌≢◌, ◌<◌, ◌^◌, ◌&&◌, int_div, int_rem, ◌+ℤ◌, IsTrue, IsFalse, IfOk, IfSome, IfNone, pos, negsuc, ◌-ℤ◌, ◌*ℤ◌, ◌≤ℤ◌};
 ghost use Rattle.std.specs.Int.{int_div_euclid};
 ghost use Rattle.std.specs.Ordering.{int_eq};
@@ -208,7 +209,8 @@ fn rest(a: i128, b: i128) -> i128
 }
 
 fn is_least_by_minus_one(kind: Kind, a: i128, b: i128, widths: Widths) -> bool
-    ensures { result ≡ (int_eq b (negsuc 0) && in_some widths (λ width. int_eq a (least_of kind width))) }
+    ensures { result ≡ (int_eq b (negsuc 0) && in_some widths
+        (λ width. int_eq a (least_of kind width))) }
 {
     b == -1 && is_least(kind, a, widths)
 }

@@ -1,3 +1,4 @@
+//! The widths that `long` may have.
 ghost use Rattle.std.specs.Prelude.{IsTrue, ◌||◌};
 
 /// The sizes in bits that `long` may have, at least one: 32, 64 or both.

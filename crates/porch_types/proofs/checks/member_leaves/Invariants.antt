@@ -1,6 +1,6 @@
 use Rattle.std.proofs.Common.{◌≡◌, ◌<◌, ◌+◌, ◌-◌, ◌^◌, min, drop}
 use Rattle.porch_types.specs.Leaves.{leaves_of, leaves_together}
-use Rattle.porch_types.specs.Kept.{types_of}
+use Rattle.porch_types.specs.Entries.{types_of}
 use Rattle.porch_types.proofs.checks.member_leaves.Given as goal
 
 abbrev pub invariant-loop-member : goal.invariant-loop-member

@@ -1,6 +1,7 @@
 use Rattle.std.proofs.Common.{◌≡◌, ◌+◌, ◌++◌, drop}
 use Rattle.porch_types.specs.Leaves.{leaves_of, leaves_together}
-use Rattle.porch_types.specs.Kept.{types_of, starts_from}
+use Rattle.porch_types.specs.Entries.{types_of}
+use Rattle.porch_types.specs.inside.Kept.{starts_from}
 use Rattle.porch_types.proofs.checks.member_starts.Given as goal
 
 abbrev pub invariant-loop-member : goal.invariant-loop-member

@@ -1,5 +1,5 @@
 use Rattle.std.proofs.Common.{subst, sym}
-use Rattle.porch_types.specs.Kept.{IsKept}
+use Rattle.porch_types.specs.inside.Kept.{IsKept}
 use Rattle.porch_types.proofs.Putting.{kept_put}
 use Rattle.porch_types.proofs.checks.put.Goals as goal
 

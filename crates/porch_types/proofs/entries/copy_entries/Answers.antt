@@ -1,5 +1,5 @@
 use Rattle.std.proofs.Common.{◌∙◌, ap}
-use Rattle.porch_types.specs.Kept.{contents}
+use Rattle.porch_types.specs.inside.Kept.{contents}
 use Rattle.porch_types.proofs.Copying.{copied_more}
 use Rattle.porch_types.proofs.entries.copy_entries.Goals as goal
 

@@ -3,7 +3,8 @@ use Rattle.porch_types.specs.declared.shapes.Ty.TheVariants.{Whole, Pointer, Arr
 use Rattle.porch_types.specs.declared.parts.Part.{Part}
 use Rattle.porch_types.specs.Leaves.{leaves_of, leaves_together}
 use Rattle.porch_types.specs.Rows.{element_at, member_at}
-use Rattle.porch_types.specs.Kept.{types_of, starts_from}
+use Rattle.porch_types.specs.Entries.{types_of}
+use Rattle.porch_types.specs.inside.Kept.{starts_from}
 use Rattle.porch_types.proofs.Looked.{entry_at, array_below, part_is, struct_at, struct_first, some_still}
 use Rattle.porch_types.proofs.Found.{length-starts}
 use Rattle.porch_types.proofs.entries.part_in.Goals as goal

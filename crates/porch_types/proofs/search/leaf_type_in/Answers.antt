@@ -1,5 +1,5 @@
 use Rattle.std.proofs.Common.{◌∙◌, sym, arith}
-use Rattle.porch_types.specs.Kept.{types_of}
+use Rattle.porch_types.specs.Entries.{types_of}
 use Rattle.porch_types.proofs.LeafTypes.{leaf_down}
 use Rattle.porch_types.proofs.search.leaf_type_in.Goals as goal
 

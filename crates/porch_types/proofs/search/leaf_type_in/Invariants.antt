@@ -1,6 +1,6 @@
 use Rattle.std.proofs.Common.{◌≡◌, ◌<◌, length, suc}
 use Rattle.porch_types.specs.LeafTypes.{leaf_type, leaf_type_within}
-use Rattle.porch_types.specs.Kept.{types_of}
+use Rattle.porch_types.specs.Entries.{types_of}
 use Rattle.porch_types.proofs.search.leaf_type_in.Given as goal
 
 abbrev pub invariant-down : goal.invariant-down

@@ -2,7 +2,7 @@ use Rattle.std.proofs.Common.{◌<◌, ◌≤◌, length, IfSome, ap, sym, ◌�
 use Rattle.std.specs.Option.{option_map}
 use Rattle.porch_types.specs.declared.parts.Part.{Part}
 use Rattle.porch_types.specs.Rows.{row_within, moved_row}
-use Rattle.porch_types.specs.Kept.{types_of}
+use Rattle.porch_types.specs.Entries.{types_of}
 use Rattle.porch_types.proofs.Depth.{depth_of, goes_on}
 use Rattle.porch_types.proofs.Looked.{some_still}
 use Rattle.porch_types.proofs.search.row_in.Goals as goal

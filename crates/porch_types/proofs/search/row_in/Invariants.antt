@@ -1,7 +1,7 @@
 use Rattle.std.proofs.Common.{◌≡◌, ◌<◌, ◌≤◌, ◌+◌, length, IfSome}
 use Rattle.std.specs.Option.{option_map}
 use Rattle.porch_types.specs.Rows.{row_at, row_within, moved_row}
-use Rattle.porch_types.specs.Kept.{types_of}
+use Rattle.porch_types.specs.Entries.{types_of}
 use Rattle.porch_types.proofs.Depth.{depth_of}
 use Rattle.porch_types.proofs.search.row_in.Given as goal
 

@@ -1,6 +1,6 @@
 use Rattle.std.proofs.Common.{◌+◌, ◌-◌, ◌/◌, ◌%◌, is_some, ap, ◌∙◌}
 use Rattle.porch_types.specs.Rows.{row_at}
-use Rattle.porch_types.specs.Kept.{types_of}
+use Rattle.porch_types.specs.Entries.{types_of}
 use Rattle.porch_types.proofs.Shifted.{shifted}
 use Rattle.porch_types.proofs.search.shares_end.Goals as goal
 

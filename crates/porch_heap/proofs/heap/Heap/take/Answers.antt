@@ -1,10 +1,12 @@
 use Rattle.std.proofs.Common.{◌≡◌, refl}
 use Rattle.std.specs.Prelude.{insert}
 use Rattle.porch_heap.specs.declared.block.Block.{Block}
-use Rattle.porch_heap.specs.Blocks.{with_block}
+use Rattle.porch_heap.specs.Blocks.{with_block, IsFullFor}
 use Rattle.porch_heap.specs.Chunks.{blocks_of}
+use Rattle.porch_heap.specs.inside.Searching.{state}
 use Rattle.porch_heap.specs.inside.Seats.{number_of}
 use Rattle.porch_heap.proofs.Changes.{with_block-insert}
+use Rattle.porch_heap.proofs.FirstGap.{place_found, none_found}
 use Rattle.porch_heap.proofs.HeapKept.{inserted_keeps}
 use Rattle.porch_heap.proofs.heap.Heap.take.Goals as goal
 
@@ -30,3 +32,15 @@ returns-in-Some-clause-added c =
 
 pub returns-in-Some-clause-valid : goal.returns-in-Some-clause-valid
 returns-in-Some-clause-valid c = (invariant_of-self c).heap
+
+pub returns-in-Some-clause-value : goal.returns-in-Some-clause-value
+returns-in-Some-clause-value c =
+    rw (← c.self.view_is)
+    (place_found _ c.args.bytes c.args.align c.in-Some.place.at c.self.invariant.heap c.requires.align c.in-Some.ensures.room c.in-Some.ensures.first)
+
+pub returns-in-None-clause-value : goal.returns-in-None-clause-value
+returns-in-None-clause-value c =
+    let cs = c.self.inside.live.chunks in
+    let full : IsFullFor (state c.self.inside.live.base c.self.inside.bytes (blocks_of cs)) c.args.bytes c.full.result = rw c.place.ensures.same at c.full.ensures.fault in
+    rw (← c.self.view_is)
+    (none_found _ c.args.bytes c.args.align c.full.result c.self.invariant.heap c.requires.align c.in-None.ensures.full full)

@@ -1,4 +1,4 @@
-use Rattle.porch_types.specs.Kept.{types_of}
+use Rattle.porch_types.specs.Entries.{types_of}
 use Rattle.porch_types.proofs.Putting.{kinds_put, few_put}
 use Rattle.porch_types.proofs.types.Types.add.Goals as goal
 

@@ -1,5 +1,5 @@
 use Rattle.std.proofs.Common.{◌∙◌, ap, sym}
-use Rattle.porch_types.specs.Kept.{contents}
+use Rattle.porch_types.specs.inside.Kept.{contents}
 use Rattle.porch_types.proofs.Copying.{kept_alike, same_types}
 use Rattle.porch_types.proofs.types.Types.copy.Goals as goal
 

@@ -1,7 +1,7 @@
 use Rattle.std.proofs.Common.{slice_get, ◌∙◌, ap, subst, sym}
 use Rattle.porch_types.specs.Leaves.{AreFormed}
 use Rattle.porch_types.specs.LeafTypes.{IsScalar, leaf_type}
-use Rattle.porch_types.specs.Kept.{types_of}
+use Rattle.porch_types.specs.Entries.{types_of}
 use Rattle.porch_types.proofs.LeafTypes.{leaf_scalar}
 use Rattle.porch_types.proofs.types.Types.leaf_type.Goals as goal
 

@@ -1,7 +1,7 @@
 use Rattle.std.proofs.Common.{◌∙◌, ap, subst}
 use Rattle.porch_types.specs.Leaves.{AreFormed}
 use Rattle.porch_types.specs.Rows.{row_at}
-use Rattle.porch_types.specs.Kept.{types_of}
+use Rattle.porch_types.specs.Entries.{types_of}
 use Rattle.porch_types.proofs.Subobjects.{if_found, if_none}
 use Rattle.porch_types.proofs.types.Types.row_of.Goals as goal
 

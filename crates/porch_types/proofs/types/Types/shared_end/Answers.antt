@@ -1,7 +1,7 @@
 use Rattle.std.proofs.Common.{◌+◌, ◌∙◌, ap, subst}
 use Rattle.porch_types.specs.Leaves.{AreFormed, leaves_of}
 use Rattle.porch_types.specs.Rows.{has_shared_end}
-use Rattle.porch_types.specs.Kept.{types_of}
+use Rattle.porch_types.specs.Entries.{types_of}
 use Rattle.porch_types.proofs.Subobjects.{found_iff}
 use Rattle.porch_types.proofs.types.Types.shared_end.Goals as goal
 

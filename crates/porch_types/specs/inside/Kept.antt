@@ -3,11 +3,8 @@ use Rattle.std.specs.Prelude.{◌≡◌, ℕ, ◌+◌, ◌^◌, List, [], ◌∷
 use Rattle.porch_types.specs.declared.shapes.Ty.{Ty}
 use Rattle.porch_types.specs.declared.shapes.Ty.TheVariants.{Whole, Pointer, Array, Struct}
 use Rattle.porch_types.specs.declared.entries.Entry.{Entry}
+use Rattle.porch_types.specs.Entries.{types_of}
 use Rattle.porch_types.specs.Leaves.{AreFormed, MOST_LEAVES, kind_types, parts_of, width_of, leaf_count, leaf_counts, leaves_of}
-
--- the types of these entries
-abbrev pub types_of : List Entry → List Ty
-types_of entries = map (λ entry. entry.ty) entries
 
 -- the first leaf of each member, where the first of them begins at `first`
 abbrev pub starts_from : (ℕ → ℕ) → ℕ → List ℕ → List ℕ
