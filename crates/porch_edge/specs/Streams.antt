@@ -8,11 +8,6 @@ use Rattle.std.specs.declared.result.Result.{Result}
 use Rattle.std.specs.declared.result.Result.TheVariants.{Ok, Err}
 use Rattle.porch_edge.specs.declared.failed.Failed.{Failed}
 
--- a fact about the bytes, where they are told
-abbrev pub WhereTold : Option (List ℕ) → (List ℕ → Type 0) → Type 0
-WhereTold None P = ⊤
-WhereTold (Some bytes) P = P bytes
-
 -- A read took the bytes that it put at the front of the buffer. It took none only at the end, for an empty buffer, or
 -- where it failed.
 abbrev pub Takes : Option (List ℕ) → Option (List ℕ) → Result ℕ Failed → List ℕ → Type 0

@@ -2,6 +2,9 @@
 
 use crate::Failed;
 
+/// No file is longer, in bytes.
+pub(crate) const LONGEST: u64 = 1 << 62;
+
 /// The files of a folder.
 #[derive(Clone, Copy, Debug, PartialEq, Eq)]
 pub enum FileName {

@@ -4,14 +4,12 @@ ghost use Rattle.porch_edge.specs.Causes.{HasCause, faults_after};
 ghost use Rattle.porch_edge.specs.Disk.{untold};
 
 use crate::answer::{answer, refuse};
+use crate::disk::LONGEST;
 use crate::{Disk, Failed, FileName};
 use std::fs::{File, OpenFile, OpenOptions};
 use std::io;
 use std::os::unix::fs::FileExt;
 use std::rt::Runtime;
-
-// No file is longer, in bytes.
-const LONGEST: u64 = 1 << 62;
 
 /// The files of the current folder: `program.ft.c`, `output`, `ck.a`, `ck.b`, `layouts.toml` and `input`.
 /// It tells nothing of their content.
@@ -111,35 +109,6 @@ impl<R: Runtime<File = File>> DirDisk<R> {
     }
 }
 
-// Reads until the buffer is full or the file is at its end.
-fn fill(file: &File, at: u64, buf: &mut [u8]) -> io::Result<usize>
-    requires { at + length buf.old ≤ 2 ^ 62 }
-    ensures { IfOk result (λ n. n ≤ length buf.new) }
-{
-    let mut filled = 0;
-    while filled < buf.len() {
-        let count = file.read_at(&mut buf[filled..], at + filled as u64)?;
-        if count == 0 {
-            break;
-        }
-        filled += count;
-    }
-    Ok(filled)
-}
-
-// How many of these bytes from this place on lie below 2^62.
-fn within(at: u64, count: usize) -> usize
-    ensures fewer { result ≤ count }
-    ensures below { 0 < result → at + result ≤ 2 ^ 62 }
-{
-    let room = LONGEST.saturating_sub(at);
-    if count as u64 <= room {
-        count
-    } else {
-        room as usize
-    }
-}
-
 impl<R: Runtime<File = File>> Disk for DirDisk<R> {
     ghost state = { λ _. untold };
 
@@ -212,4 +181,33 @@ impl<R: Runtime<File = File>> Disk for DirDisk<R> {
     ghost only_now = { λ d. tt };
 
     ghost is_within = { λ d. tt };
+}
+
+// Reads until the buffer is full or the file is at its end.
+fn fill(file: &File, at: u64, buf: &mut [u8]) -> io::Result<usize>
+    requires { at + length buf.old ≤ 2 ^ 62 }
+    ensures { IfOk result (λ n. n ≤ length buf.new) }
+{
+    let mut filled = 0;
+    while filled < buf.len() {
+        let count = file.read_at(&mut buf[filled..], at + filled as u64)?;
+        if count == 0 {
+            break;
+        }
+        filled += count;
+    }
+    Ok(filled)
+}
+
+// How many of these bytes from this place on lie below 2^62.
+fn within(at: u64, count: usize) -> usize
+    ensures fewer { result ≤ count }
+    ensures below { 0 < result → at + result ≤ 2 ^ 62 }
+{
+    let room = LONGEST.saturating_sub(at);
+    if count as u64 <= room {
+        count
+    } else {
+        room as usize
+    }
 }

@@ -31,14 +31,6 @@ pub struct Call {
     pub before: Vec<u8>,
 }
 
-// Adds a call where there is room.
-fn append(calls: &mut Vec<Call>, call: Call)
-    requires { vec_len calls.old < vec_capacity calls.old }
-    ensures { calls.new.items ≡ calls.old.items ++ call ∷ [] }
-{
-    let _ = calls.push(call);
-}
-
 /// Keeps a call that changes no byte. Want of memory leaves everything as it was.
 pub(crate) fn note(
     alloc: Global,
@@ -60,6 +52,78 @@ pub(crate) fn note(
         },
     );
     Ok(())
+}
+
+/// Writes at a place of a file. Want of memory leaves everything as it was.
+pub(crate) fn write(
+    alloc: Global,
+    files: &mut Contents,
+    calls: &mut Vec<Call>,
+    file: FileName,
+    at: u64,
+    bytes: &[u8],
+) -> Result<(), AllocError>
+    requires some { 0 < length bytes.now }
+    requires short { at + length bytes.now ≤ 2 ^ 62 }
+    ensures ok { OnOk result (Logged files.old files.new calls.old.items calls.new.items file
+        (written (file_of file files.old) at bytes.now)
+        (Change.Write (min at (length (file_of file files.old))) (at + length bytes.now))) }
+    ensures files_err { OnErr result (files.new ≡ files.old) }
+    ensures calls_err { OnErr result (calls.new.items ≡ calls.old.items) }
+{
+    let old = files.get(file);
+    let from = at.min(old.len() as u64);
+    let next = rewritten(alloc, old, at as usize, bytes)?;
+    exchange(
+        files,
+        calls,
+        file,
+        Change::Write(from, at + bytes.len() as u64),
+        next,
+    )
+}
+
+/// Cuts a file that is longer to a length. Want of memory leaves everything as it was.
+pub(crate) fn cut(
+    alloc: Global,
+    files: &mut Contents,
+    calls: &mut Vec<Call>,
+    file: FileName,
+    len: u64,
+) -> Result<(), AllocError>
+    requires { len < length (file_of file files.old) }
+    ensures ok { OnOk result (Logged files.old files.new calls.old.items calls.new.items file
+        (take len (file_of file files.old)) (Change.Cut len)) }
+    ensures files_err { OnErr result (files.new ≡ files.old) }
+    ensures calls_err { OnErr result (calls.new.items ≡ calls.old.items) }
+{
+    let next = files.get(file)[..len as usize].to_vec(alloc)?;
+    exchange(files, calls, file, Change::Cut(len), next)
+}
+
+/// Gives a file other bytes, synced. Want of memory leaves everything as it was.
+pub(crate) fn put(
+    alloc: Global,
+    files: &mut Contents,
+    calls: &mut Vec<Call>,
+    file: FileName,
+    bytes: &[u8],
+) -> Result<(), AllocError>
+    ensures ok { OnOk result
+        (Logged files.old files.new calls.old.items calls.new.items file bytes.now Change.Put) }
+    ensures files_err { OnErr result (files.new ≡ files.old) }
+    ensures calls_err { OnErr result (calls.new.items ≡ calls.old.items) }
+{
+    let next = bytes.to_vec(alloc)?;
+    exchange(files, calls, file, Change::Put, next)
+}
+
+// Adds a call where there is room.
+fn append(calls: &mut Vec<Call>, call: Call)
+    requires { vec_len calls.old < vec_capacity calls.old }
+    ensures { calls.new.items ≡ calls.old.items ++ call ∷ [] }
+{
+    let _ = calls.push(call);
 }
 
 // Gives a file other bytes, and keeps the call. Want of memory leaves everything as it was.
@@ -127,68 +191,4 @@ fn rewritten(alloc: Global, old: &[u8], at: usize, bytes: &[u8]) -> Result<Vec<u
     } else {
         behind(alloc, old, at, bytes)
     }
-}
-
-/// Writes at a place of a file. Want of memory leaves everything as it was.
-pub(crate) fn write(
-    alloc: Global,
-    files: &mut Contents,
-    calls: &mut Vec<Call>,
-    file: FileName,
-    at: u64,
-    bytes: &[u8],
-) -> Result<(), AllocError>
-    requires some { 0 < length bytes.now }
-    requires short { at + length bytes.now ≤ 2 ^ 62 }
-    ensures ok { OnOk result (Logged files.old files.new calls.old.items calls.new.items file
-        (written (file_of file files.old) at bytes.now)
-        (Change.Write (min at (length (file_of file files.old))) (at + length bytes.now))) }
-    ensures files_err { OnErr result (files.new ≡ files.old) }
-    ensures calls_err { OnErr result (calls.new.items ≡ calls.old.items) }
-{
-    let old = files.get(file);
-    let from = at.min(old.len() as u64);
-    let next = rewritten(alloc, old, at as usize, bytes)?;
-    exchange(
-        files,
-        calls,
-        file,
-        Change::Write(from, at + bytes.len() as u64),
-        next,
-    )
-}
-
-/// Cuts a file that is longer to a length. Want of memory leaves everything as it was.
-pub(crate) fn cut(
-    alloc: Global,
-    files: &mut Contents,
-    calls: &mut Vec<Call>,
-    file: FileName,
-    len: u64,
-) -> Result<(), AllocError>
-    requires { len < length (file_of file files.old) }
-    ensures ok { OnOk result (Logged files.old files.new calls.old.items calls.new.items file
-        (take len (file_of file files.old)) (Change.Cut len)) }
-    ensures files_err { OnErr result (files.new ≡ files.old) }
-    ensures calls_err { OnErr result (calls.new.items ≡ calls.old.items) }
-{
-    let next = files.get(file)[..len as usize].to_vec(alloc)?;
-    exchange(files, calls, file, Change::Cut(len), next)
-}
-
-/// Gives a file other bytes, synced. Want of memory leaves everything as it was.
-pub(crate) fn put(
-    alloc: Global,
-    files: &mut Contents,
-    calls: &mut Vec<Call>,
-    file: FileName,
-    bytes: &[u8],
-) -> Result<(), AllocError>
-    ensures ok { OnOk result
-        (Logged files.old files.new calls.old.items calls.new.items file bytes.now Change.Put) }
-    ensures files_err { OnErr result (files.new ≡ files.old) }
-    ensures calls_err { OnErr result (calls.new.items ≡ calls.old.items) }
-{
-    let next = bytes.to_vec(alloc)?;
-    exchange(files, calls, file, Change::Put, next)
 }

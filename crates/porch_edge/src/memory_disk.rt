@@ -5,13 +5,11 @@ ghost use Rattle.porch_edge.specs.inside.Kept.{Kept};
 ghost use Rattle.porch_edge.specs.inside.Props.{kept_prop};
 
 use crate::contents::Contents;
+use crate::disk::LONGEST;
 use crate::memory_calls::{self, Call, Change};
 use crate::memory_plan::{Fate, Plan, Stop};
 use crate::{Disk, Failed, FileName, memory_picks};
 use std::alloc::{AllocError, Global};
-
-// No file is longer, in bytes.
-const LONGEST: u64 = 1 << 62;
 
 /// Six files in memory. It keeps a list of its calls, with the bytes that each has changed.
 #[derive(Drop)]
@@ -23,27 +21,6 @@ pub struct MemDisk {
     // How many calls have failed, up to its last value.
     faults: u64,
     ghost kept: { Kept files (reverse calls.items) } by { kept_prop files (reverse calls.items) },
-}
-
-// Counts one more fault.
-fn counted(faults: &mut u64) -> Failed
-    ensures rose { Rose faults.old faults.new }
-    ensures later { faults.old ≤ faults.new }
-{
-    *faults = faults.saturating_add(1);
-    Failed
-}
-
-// The answer of a call that was made, or for which there was no memory.
-fn answer(fate: Fate, done: Result<(), AllocError>, faults: &mut u64) -> Result<(), Failed>
-    ensures done { OnErr done (OnOk result ⊥) }
-    ensures goes { OnOk result (fate ≡ Fate.Goes) }
-    ensures cause { HasCause faults.old faults.new result }
-{
-    match (fate, done) {
-        (Fate::Goes, Ok(())) => Ok(()),
-        _ => Err(counted(faults)),
-    }
 }
 
 impl MemDisk {
@@ -284,4 +261,25 @@ fn copy_from(bytes: &[u8], at: u64, buf: &mut [u8]) -> usize
     let count = buf.len().min(bytes.len() - from);
     buf[..count].copy_from_slice(&bytes[from..from + count]);
     count
+}
+
+// Counts one more fault.
+fn counted(faults: &mut u64) -> Failed
+    ensures rose { Rose faults.old faults.new }
+    ensures later { faults.old ≤ faults.new }
+{
+    *faults = faults.saturating_add(1);
+    Failed
+}
+
+// The answer of a call that was made, or for which there was no memory.
+fn answer(fate: Fate, done: Result<(), AllocError>, faults: &mut u64) -> Result<(), Failed>
+    ensures done { OnErr done (OnOk result ⊥) }
+    ensures goes { OnOk result (fate ≡ Fate.Goes) }
+    ensures cause { HasCause faults.old faults.new result }
+{
+    match (fate, done) {
+        (Fate::Goes, Ok(())) => Ok(()),
+        _ => Err(counted(faults)),
+    }
 }

@@ -13,6 +13,19 @@ use crate::memory_calls::{Call, Change};
 use crate::memory_plan::Pick;
 use std::alloc::Global;
 
+/// Makes of the files what a crash leaves by this pick, or leaves them where there was none. It takes no memory.
+pub(crate) fn crash(alloc: Global, files: &mut Contents, calls: Vec<Call>, pick: Option<Pick>)
+    ensures { (file : FileName)
+        → file_of file files.new
+        ≡ revived pick file (file_of file files.old) (reverse calls.items) }
+{
+    match pick {
+        None | Some(Pick::New) => {}
+        Some(Pick::Old) => undo_pending(files, calls),
+        Some(Pick::Fill(byte)) => paint_files(alloc, files, &calls, byte),
+    }
+}
+
 // A number for each file.
 fn index_of(file: FileName) -> usize
     ensures is { result ≡ index_of file }
@@ -133,17 +146,4 @@ fn paint_files(alloc: Global, files: &mut Contents, calls: &[Call], byte: u8)
     paint_file(alloc, files, calls, FileName::CkB, byte);
     paint_file(alloc, files, calls, FileName::Layouts, byte);
     paint_file(alloc, files, calls, FileName::Input, byte);
-}
-
-/// Makes of the files what a crash leaves by this pick, or leaves them where there was none. It takes no memory.
-pub(crate) fn crash(alloc: Global, files: &mut Contents, calls: Vec<Call>, pick: Option<Pick>)
-    ensures { (file : FileName)
-        → file_of file files.new
-        ≡ revived pick file (file_of file files.old) (reverse calls.items) }
-{
-    match pick {
-        None | Some(Pick::New) => {}
-        Some(Pick::Old) => undo_pending(files, calls),
-        Some(Pick::Fill(byte)) => paint_files(alloc, files, &calls, byte),
-    }
 }

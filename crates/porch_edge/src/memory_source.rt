@@ -47,23 +47,6 @@ impl MemSource {
     }
 }
 
-/// Whether a call's number is among those that fail.
-pub(crate) fn fails_at(fails: &[u64], call: u64) -> bool
-    ensures { result ≡ is_listed call fails.now }
-{
-    fails.contains(&call)
-}
-
-/// Copies as many bytes as there are and as fit, and answers how many.
-fn copy_front(from: &[u8], into: &mut [u8]) -> usize
-    ensures count { result ≡ min (length into.old) (length from.now) }
-    ensures copied { take result into.new ≡ take result from.now }
-{
-    let count = from.len().min(into.len());
-    into[..count].copy_from_slice(&from[..count]);
-    count
-}
-
 impl Source for MemSource {
     ghost left = { λ s. Some s.left };
 
@@ -84,4 +67,21 @@ impl Source for MemSource {
         self.taken += count;
         Ok(count)
     }
+}
+
+/// Whether a call's number is among those that fail.
+pub(crate) fn fails_at(fails: &[u64], call: u64) -> bool
+    ensures { result ≡ is_listed call fails.now }
+{
+    fails.contains(&call)
+}
+
+/// Copies as many bytes as there are and as fit, and answers how many.
+fn copy_front(from: &[u8], into: &mut [u8]) -> usize
+    ensures count { result ≡ min (length into.old) (length from.now) }
+    ensures copied { take result into.new ≡ take result from.now }
+{
+    let count = from.len().min(into.len());
+    into[..count].copy_from_slice(&from[..count]);
+    count
 }
