@@ -2,6 +2,9 @@
 //!
 //! `flat.rt` has the program as data, `labels.rt` where its labels stand, `valid.rt` the programs that break no rule.
 //! `specs/Valid` says what the rules are.
+//!
+//! `whole.rt` and `specs/whole` declare the whole flat text: every command, the forms of commands, and every rule by its
+//! line. Nothing runs them yet.
 #![tactic(auto)]
 
 mod checks;
@@ -10,6 +13,7 @@ pub mod labels;
 #[cfg(test)]
 mod tests;
 pub mod valid;
+pub mod whole;
 
 pub use flat::{Command, Flat, Function, GlobalObject, Init, Operand};
 pub use labels::Labels;
