@@ -14,6 +14,7 @@ pub mod labels;
 mod tests;
 pub mod valid;
 pub mod whole;
+pub mod worked;
 
 pub use flat::{Command, Flat, Function, GlobalObject, Init, Operand};
 pub use labels::Labels;

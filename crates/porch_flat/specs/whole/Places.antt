@@ -1,8 +1,8 @@
 -- Types of variables, of leaves and of the places where operands stand; where labels stand.
-use Rattle.std.specs.Prelude.{ℕ, zero, suc, ◌-◌, ◌==◌, Bool, true, false, if◌then◌else◌, List, [], ◌∷◌, take, position, slice_get, codes, option_and_then, Option, Some, None}
+use Rattle.std.specs.Prelude.{ℕ, zero, suc, ◌-◌, ◌==◌, Bool, false, if◌then◌else◌, List, [], ◌∷◌, take, position, slice_get, codes, option_and_then, Option, Some, None}
 use Rattle.std.specs.Str.{bytes_eq}
 use Rattle.porch_types.specs.declared.shapes.Ty.{Ty}
-use Rattle.porch_types.specs.declared.shapes.Ty.TheVariants.{Whole, Pointer, Array, Struct}
+use Rattle.porch_types.specs.declared.shapes.Ty.TheVariants.{Whole, Pointer}
 use Rattle.porch_types.specs.declared.parts.Part.{Part}
 use Rattle.porch_types.specs.Rows.{part_at}
 use Rattle.porch_values.specs.declared.acts.Op.{Op}
@@ -156,7 +156,7 @@ abbrev pub leaf_within : ℕ → List Ty → ℕ → ℕ → Option ℕ
 leaf_within zero types ty leaf = None
 leaf_within (suc depth) types ty leaf =
     leaf_or_part (slice_get types ty) ty (part_at types ty leaf)
-      (λ part. leaf_within depth types part.ty (leaf - part.first))
+    (λ part. leaf_within depth types part.ty (leaf - part.first))
 
 abbrev pub leaf_type : List Ty → ℕ → ℕ → Option ℕ
 leaf_type types ty leaf = leaf_within (suc ty) types ty leaf
