@@ -6,5 +6,7 @@ pub mod Parts
 pub mod Valid
 -- the places of labels, as they are kept
 pub mod Labelled
+-- the whole flat text: the forms of commands, the lines of a text, types, rules
+pub mod whole
 -- what only private contracts cite
 pub mod inside

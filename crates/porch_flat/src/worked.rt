@@ -1,0 +1,25 @@
+//! What the rules say of some small programs. The functions are laws, and have nothing to run.
+
+ghost use Rattle.std.specs.Prelude.{◌≡◌, true, false};
+ghost use Rattle.porch_flat.specs.declared.whole.FlatRule.TheVariants.{Main, Modes};
+ghost use Rattle.porch_flat.specs.declared.whole.Sort.TheVariants.{Plain, Rewritten};
+ghost use Rattle.porch_flat.specs.whole.Lines.{line_behind};
+ghost use Rattle.porch_flat.specs.whole.Rules.{Breaks};
+ghost use Rattle.porch_flat.specs.whole.Worked.{saving_program, empty_program, keeps_all};
+
+/// A program that saves and rebuilds its frame keeps each rule, in a text of 15 lines.
+#[tactic(auto, unfolding(crate::specs::whole::Rewritten::reaches_within))]
+pub fn a_saving_program_is_valid()
+    ensures rules { keeps_all Rewritten saving_program ≡ true }
+    ensures lines { line_behind saving_program ≡ 16 }
+{}
+
+/// Where none is asked for that saves, it breaks Modes at the line of its function.
+pub fn a_saving_program_is_not_plain()
+    ensures { Breaks Plain saving_program 3 Modes }
+{}
+
+/// A program without a function breaks Main behind the two head lines.
+pub fn an_empty_program_has_no_main()
+    ensures { Breaks Plain empty_program 3 Main }
+{}
