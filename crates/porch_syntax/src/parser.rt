@@ -14,7 +14,7 @@ use std::alloc::{AllocError, Global};
 
 const MOST_BYTES: usize = 1048576;
 
-#[tactic(auto, unfolding(crate::specs::Source::source_of))]
+#[tactic(auto, unfolding(crate::specs::inside::Source::source_of))]
 fn read(alloc: Global, text: &[u8]) -> Result<Option<Tree>, AllocError>
     requires { length text.now ≤ 2 ^ 20 }
     ensures { IfOk result (λ found. option_map program_of found ≡ source_of text.now) }
