@@ -1,21 +1,19 @@
 -- What a command does to the state that is kept is what the abstract machine does.
-use Rattle.std.proofs.Common.{◌≡◌, ◌+◌, ℕ, suc, ℤ, pos, Bool, true, false, List, [], ◌∷◌, map, length, inl, inr, sym, ◌∙◌, ap, arith, refl}
+use Rattle.std.proofs.Common.{◌≡◌, ◌+◌, ℕ, ℤ, pos, Bool, true, false, List, [], ◌∷◌, ◌++◌, length, inl, inr, sym, ◌∙◌, ap, refl}
 use Rattle.std.proofs.Math.ListN.{get_or}
 use Rattle.std.proofs.lemmas.Bool.{cases_lt}
-use Rattle.std.proofs.lemmas.List.{length-set, length-map, length-replicate, get_or_past}
+use Rattle.std.proofs.lemmas.List.{get_or_past}
 use Rattle.std.specs.Prelude.{slice_get, slice_index_or, unwrap_or, if◌then◌else◌, Some, None, Result, Ok, Err, All, replicate, position, nat_lt, not}
 use Rattle.std.specs.Ordering.{int_eq}
 use Rattle.std.specs.declared.option.Option.{Option}
-use Rattle.std.specs.List.{range_with_len}
 use Rattle.porch_types.specs.declared.shapes.Kind.TheVariants.{Int}
 use Rattle.porch_types.specs.Leaves.{kind_types}
 use Rattle.porch_values.specs.declared.acts.Act.{Act}
 use Rattle.porch_values.specs.declared.acts.Op.{Op}
 use Rattle.porch_values.specs.declared.acts.Op.TheVariants.{Add, Sub, Mul}
-use Rattle.porch_values.specs.declared.widths.Widths.{Widths}
 use Rattle.porch_values.specs.Integers.{applied}
-use Rattle.porch_objects.specs.Store.{Value, number, indeterminate, Object, Root, fresh}
-use Rattle.porch_objects.specs.Meaning.{truth, byte_of}
+use Rattle.porch_objects.specs.Store.{Value, number, indeterminate, Object, Activation, Store}
+use Rattle.porch_objects.specs.Meaning.{Environment, truth, byte_of}
 use Rattle.porch_flat.specs.declared.flat.Operand.{Operand}
 use Rattle.porch_flat.specs.declared.flat.Operand.TheVariants.{Var, Constant}
 use Rattle.porch_flat.specs.declared.flat.Command.{Command}
@@ -23,17 +21,18 @@ use Rattle.porch_flat.specs.declared.flat.Command.TheVariants as command
 use Rattle.porch_flat.specs.declared.flat.Function.{Function}
 use Rattle.porch_flat.specs.declared.flat.Flat.{Flat}
 use Rattle.porch_flat.specs.Labelled.{place_in}
+use Rattle.porch_flat.specs.Parts.{commands_of, vars_of, kind_of}
 use Rattle.porch_flat.specs.Places.{place_of_label, is_main, main_of}
 use Rattle.porch_flat.specs.Valid.{IsValid, IsMain, int_type}
 use Rattle.porch_abstract.specs.declared.effects.Effect.{Effect}
 use Rattle.porch_abstract.specs.declared.effects.Effect.TheVariants.{On, Set, Show, Go, End}
 use Rattle.porch_abstract.specs.declared.phase.Phase.{Phase}
 use Rattle.porch_abstract.specs.declared.phase.Phase.TheVariants.{Begun, Running, Over}
-use Rattle.porch_abstract.specs.Machine.{Frame, State, Next, Goes, next, after, put, operand_of, determined, counted, resulted, onward, at_label, kind_in, kind_of, vars_of, commands_of, operated, shown, returned, entered}
+use Rattle.porch_abstract.specs.Machine.{Frame, running, State, Next, Goes, next, after, put, operand_of, determined, counted, resulted, onward, at_label, kind_in, operated, shown, returned, called}
 use Rattle.porch_abstract.specs.Effects as effects
 use Rattle.porch_abstract.specs.Effects.{given, operand_in, effect_of, effect_at, place_of, set_to}
-use Rattle.porch_abstract.specs.Kept.{value_of, int_object, main_frame, state_in, effected, IsCountedIn}
-use Rattle.porch_abstract.proofs.Stores.{objects_of, seen-vars, stored-vars, all_ended-vars}
+use Rattle.porch_abstract.specs.Kept.{value_of, main_frame, calls_alone, state_in, effected}
+use Rattle.porch_abstract.proofs.Stores.{objects_of, seen-vars, stored-vars, stored_vars, fresh_vars}
 
 -- the program is one function of int variables
 pub record IsInts (flat : Flat) (main : Function) : Type 0 where
@@ -51,32 +50,35 @@ int_kind vars v ints =
       | inr past ↦ let none : get_or vars v 8 ≡ 8 = get_or_past vars v 8 past in rw none refl
     ]
 
-module _ (flat : Flat) (w : Widths) (main : Function) (is : IsInts flat main) (vars : List (Option ℤ)) (next : ℕ) (output : List ℕ) (turns : ℕ) where
+module _ (flat : Flat) (under : Environment) (main : Function) (is : IsInts flat main) (vars : List (Option ℤ)) (next : ℕ) (output : List ℕ) (turns : ℕ) where
   abbrev frame : Frame
-  frame = main_frame next (length vars)
+  frame = main_frame next
 
   abbrev here : State
   here = state_in Running vars next output turns
 
-  operand-ints : (o : Operand) → operand_of frame o here ≡ value_of (operand_in vars o)
+  abbrev state_by : ℕ → Store → List ℕ → State
+  state_by at store output = record { phase = running (main_frame at) []; store = store; output = output; turns = turns; taken = 0 }
+
+  operand-ints : (o : Operand) → operand_of o here ≡ value_of (operand_in vars o)
   operand-ints (Var v) = seen-vars vars v
   operand-ints (Constant z) = refl
 
-  kind-int : (v : ℕ) → kind_in flat w frame [] v ≡ Int
+  kind-int : (v : ℕ) → kind_in flat under frame [] v ≡ Int
   kind-int v = rw (is.types, is.only) (int_kind main.vars v is.ints)
 
   -- a variable becomes a number
-  put-int : (v : ℕ) (z : ℤ) → onward flat w frame [] (put frame v (number z) here) ≡ effected vars next output turns (Set v z)
-  put-int v z = rw (length-set vars v (Some z), stored-vars vars v z) refl
+  put-int : (v : ℕ) (z : ℤ) → onward flat under frame [] (put v (number z) here) ≡ effected vars next output turns (Set v z)
+  put-int v z = ap (λ (store : Store). Goes (state_by (next + 1) store output)) (stored-vars vars v z)
 
-  show-int : (v byte : ℕ) → onward flat w frame [] (put frame v (number (pos 1)) (shown here byte)) ≡ effected vars next output turns (Show v byte)
-  show-int v byte = rw (length-set vars v (Some (pos 1)), stored-vars vars v (pos 1)) refl
+  show-int : (v byte : ℕ) → onward flat under frame [] (put v (number (pos 1)) (shown here byte)) ≡ effected vars next output turns (Show v byte)
+  show-int v byte = ap (λ (store : Store). Goes (state_by (next + 1) store (output ++ byte ∷ []))) (stored-vars vars v (pos 1))
 
   returned-int : (z : ℤ) → returned frame [] (number z) here ≡ effected vars next output turns (End z)
-  returned-int z = rw (all_ended-vars vars) refl
+  returned-int z = refl
 
   returned-nothing : returned frame [] indeterminate here ≡ effected vars next output turns (End (pos 0))
-  returned-nothing = rw (all_ended-vars vars) refl
+  returned-nothing = refl
 
   determined-int : (x : Option ℤ) (go : Value → Next) (more : ℤ → Effect) → ((z : ℤ) → go (number z) ≡ effected vars next output turns (more z)) → determined (value_of x) go ≡ effected vars next output turns (given x more)
   determined-int None go more h = refl
@@ -86,29 +88,29 @@ module _ (flat : Flat) (w : Widths) (main : Function) (is : IsInts flat main) (v
   counted-int None go more h = refl
   counted-int (Some z) go more h = h z
 
-  resulted-int : (r : Result ℤ Act) (v : ℕ) → resulted r (λ z. onward flat w frame [] (put frame v (number z) here)) ≡ effected vars next output turns (set_to v r)
+  resulted-int : (r : Result ℤ Act) (v : ℕ) → resulted r (λ z. onward flat under frame [] (put v (number z) here)) ≡ effected vars next output turns (set_to v r)
   resulted-int (Ok z) v = put-int v z
   resulted-int (Err a) v = refl
 
-  operated-int : (op : Op) (v : ℕ) (a b : Operand) → operated flat w frame [] op v a b here ≡ effected vars next output turns (effects.operated op w v (operand_in vars a) (operand_in vars b))
+  operated-int : (op : Op) (v : ℕ) (a b : Operand) → operated flat under frame [] op v a b here ≡ effected vars next output turns (effects.operated op under.widths v (operand_in vars a) (operand_in vars b))
   operated-int op v a b =
       rw (operand-ints a, operand-ints b, kind-int v)
-      (counted-int (operand_in vars a) _ _ (λ x. counted-int (operand_in vars b) _ _ (λ y. resulted-int (applied op Int w x y) v)))
+      (counted-int (operand_in vars a) _ _ (λ x. counted-int (operand_in vars b) _ _ (λ y. resulted-int (applied op Int under.widths x y) v)))
 
   module _ (labels : List (ℕ × ℕ)) (placed : (n : ℕ) → place_in labels n ≡ place_of_label (commands_of (slice_get flat.functions 0)) n) where
     abbrev effect : Command → Effect
-    effect c = effect_of vars labels (length (commands_of (slice_get flat.functions 0))) w c
+    effect c = effect_of vars labels (length (commands_of (slice_get flat.functions 0))) under.widths c
 
-    label-int : (n : ℕ) → at_label flat w frame [] n here ≡ effected vars next output turns (Go (place_of labels (length (commands_of (slice_get flat.functions 0))) n))
+    label-int : (n : ℕ) → at_label flat under frame [] n here ≡ effected vars next output turns (Go (place_of labels (length (commands_of (slice_get flat.functions 0))) n))
     label-int n = rw (placed n) refl
 
-    if-int : (b : Bool) (n : ℕ) → (if b then onward flat w frame [] here else at_label flat w frame [] n here)
+    if-int : (b : Bool) (n : ℕ) → (if b then onward flat under frame [] here else at_label flat under frame [] n here)
         ≡ effected vars next output turns (if b then On else Go (place_of labels (length (commands_of (slice_get flat.functions 0))) n))
     if-int true n = refl
     if-int false n = label-int n
 
     -- a command
-    after-int : (c : Command) → after flat w frame [] (Some c) here ≡ effected vars next output turns (effect c)
+    after-int : (c : Command) → after flat under frame [] (Some c) here ≡ effected vars next output turns (effect c)
     after-int (command.Move v o) = rw (operand-ints o) (determined-int (operand_in vars o) _ _ (λ z. put-int v z))
     after-int (command.Add v a b) = operated-int Add v a b
     after-int (command.Sub v a b) = operated-int Sub v a b
@@ -124,7 +126,7 @@ module _ (flat : Flat) (w : Widths) (main : Function) (is : IsInts flat main) (v
     after-int (command.Return (Some o)) = rw (operand-ints o) (determined-int (operand_in vars o) _ _ (λ z. returned-int z))
 
     -- the next command, and behind the last the end
-    at-int : (o : Option Command) → after flat w frame [] o here ≡ effected vars next output turns (effect_at vars labels (length (commands_of (slice_get flat.functions 0))) w o)
+    at-int : (o : Option Command) → after flat under frame [] o here ≡ effected vars next output turns (effect_at vars labels (length (commands_of (slice_get flat.functions 0))) under.widths o)
     at-int None = returned-nothing
     at-int (Some c) = after-int c
 
@@ -137,14 +139,14 @@ pub labels_of_main : (flat : Flat) (main : Function) (labels : List (ℕ × ℕ)
 labels_of_main flat main labels is placed n = placed n ∙ ap (λ (cs : List Command). place_of_label cs n) (main_commands flat main is)
 
 -- a step of a run of main
-pub running_next : (flat : Flat) (w : Widths) (main : Function) (is : IsInts flat main) (labels : List (ℕ × ℕ)) → ((n : ℕ) → place_in labels n ≡ place_of_label (commands_of (slice_get flat.functions 0)) n)
+pub running_next : (flat : Flat) (under : Environment) (main : Function) (is : IsInts flat main) (labels : List (ℕ × ℕ)) → ((n : ℕ) → place_in labels n ≡ place_of_label (commands_of (slice_get flat.functions 0)) n)
     → (phase : Phase) (vars : List (Option ℤ)) (at : ℕ) (output : List ℕ) (turns : ℕ) → phase ≡ Running
-    → next flat w (state_in phase vars at output turns) ≡ effected vars at output turns (effect_at vars labels (length main.commands) w (slice_get main.commands at))
-running_next flat w main is labels placed Begun vars at output turns h = cc
-running_next flat w main is labels placed Running vars at output turns h =
-    at-int flat w main is vars at output turns labels placed (slice_get (commands_of (slice_get flat.functions 0)) at)
-    ∙ ap (λ (cs : List Command). effected vars at output turns (effect_at vars labels (length cs) w (slice_get cs at))) (main_commands flat main is)
-running_next flat w main is labels placed Over vars at output turns h = cc
+    → next flat under (state_in phase vars at output turns) ≡ effected vars at output turns (effect_at vars labels (length main.commands) under.widths (slice_get main.commands at))
+running_next flat under main is labels placed Begun vars at output turns h = cc
+running_next flat under main is labels placed Running vars at output turns h =
+    at-int flat under main is vars at output turns labels placed (slice_get (commands_of (slice_get flat.functions 0)) at)
+    ∙ ap (λ (cs : List Command). effected vars at output turns (effect_at vars labels (length cs) under.widths (slice_get cs at))) (main_commands flat main is)
+running_next flat under main is labels placed Over vars at output turns h = cc
 
 -- the place of the only function, whether a test passes there or not
 abbrev place_by : Bool → ℕ
@@ -157,39 +159,27 @@ zero_by false = refl
 only_place : (p : Function → Bool) (f : Function) → unwrap_or (position p (f ∷ [])) 0 ≡ 0
 only_place p f = zero_by (p f)
 
-fresh_vars : (vars : List ℕ) → All (λ ty. ty ≡ int_type) vars
-    → map (fresh kind_types) (map (λ (ty : ℕ). let root : Root = record { ty = ty; count = 1 } in root) vars) ≡ objects_of (replicate (length vars) None)
-fresh_vars [] ints = refl
-fresh_vars (ty ∷ vars) ints =
-    let four : ty ≡ 4 = ints 0 0 (omega arith) in
-    rw four (ap (λ (os : List Object). int_object true None ∷ os) (fresh_vars vars (λ k d h. ints (suc k) d (omega (arith, h)))))
-
 main_place : (flat : Flat) (main : Function) → IsInts flat main → unwrap_or (main_of flat) 0 ≡ 0
 main_place flat main is = ap (λ (fs : List Function). unwrap_or (position is_main fs) 0) is.only ∙ only_place is_main main
 
 pub main_vars : (flat : Flat) (main : Function) → IsInts flat main → vars_of (slice_get flat.functions 0) ≡ main.vars
 main_vars flat main is = ap (λ (fs : List Function). vars_of (slice_get fs 0)) is.only
 
-abbrev unset : ℕ → List (Option ℤ)
-unset count = replicate count None
-
-abbrev entered_by : List ℕ → List Object → List ℕ → ℕ → State
-entered_by numbers objects output turns = record { frames = record { function = 0; next = 0; objects = numbers; into = None } ∷ []; objects = objects; output = output; turns = turns }
+abbrev entered_by : List Object → List ℕ → ℕ → State
+entered_by variables output turns =
+    record { phase = running (main_frame 0) []; store = calls_alone (let call : Activation = record { number = 0; variables = variables } in call ∷ []) 1; output = output; turns = turns; taken = 0 }
 
 -- the call of main
-entered_main : (flat : Flat) (w : Widths) (main : Function) (is : IsInts flat main) (at : ℕ) (output : List ℕ) (turns : ℕ)
-    → entered flat w 0 None (state_in Begun [] at output turns) ≡ state_in Running (replicate (length main.vars) None) 0 output (turns + 1)
-entered_main flat w main is at output turns =
-    rw (main_vars flat main is, is.types)
-    (ap (λ (n : ℕ). entered_by (range_with_len 0 n) (map (fresh kind_types) (map (λ (ty : ℕ). let root : Root = record { ty = ty; count = 1 } in root) main.vars)) output (turns + 1))
-    (length-map main.vars (λ (ty : ℕ). let root : Root = record { ty = ty; count = 1 } in root) ∙ sym (length-replicate {A = Option ℤ} (length main.vars) None))
-    ∙ ap (λ (os : List Object). entered_by (range_with_len 0 (length (unset (length main.vars)))) os output (turns + 1)) (fresh_vars main.vars is.ints))
+called_main : (flat : Flat) (under : Environment) (main : Function) (is : IsInts flat main) (at : ℕ) (output : List ℕ) (turns : ℕ)
+    → called flat under 0 [] None (state_in Begun [] at output turns) ≡ state_in Running (replicate (length main.vars) None) 0 output (turns + 1)
+called_main flat under main is at output turns =
+    rw (main_vars flat main is, is.types) (ap (λ (variables : List Object). entered_by variables output (turns + 1)) (fresh_vars main.vars is.ints))
 
 -- the first step
-pub begun_next : (flat : Flat) (w : Widths) (main : Function) (is : IsInts flat main) (phase : Phase) (vars : List (Option ℤ)) (at : ℕ) (output : List ℕ) (turns : ℕ) → phase ≡ Begun
-    → IsCountedIn phase vars turns → next flat w (state_in phase vars at output turns) ≡ Goes (state_in Running (replicate (length main.vars) None) 0 output (turns + 1))
-begun_next flat w main is Begun vars at output turns h none =
-    rw none (ap (λ (n : ℕ). Goes (entered flat w n None (state_in Begun [] at output turns))) (main_place flat main is)
-    ∙ ap (λ (s : State). Goes s) (entered_main flat w main is at output turns))
-begun_next flat w main is Running vars at output turns h none = cc
-begun_next flat w main is Over vars at output turns h none = cc
+pub begun_next : (flat : Flat) (under : Environment) (main : Function) (is : IsInts flat main) (phase : Phase) (vars : List (Option ℤ)) (at : ℕ) (output : List ℕ) (turns : ℕ) → phase ≡ Begun
+    → next flat under (state_in phase vars at output turns) ≡ Goes (state_in Running (replicate (length main.vars) None) 0 output (turns + 1))
+begun_next flat under main is Begun vars at output turns h =
+    (ap (λ (n : ℕ). Goes (called flat under n [] None (state_in Begun [] at output turns))) (main_place flat main is)
+    ∙ ap (λ (s : State). Goes s) (called_main flat under main is at output turns))
+begun_next flat under main is Running vars at output turns h = cc
+begun_next flat under main is Over vars at output turns h = cc

@@ -1,14 +1,13 @@
 -- How a run of a valid program is kept, and which state it stands for: one frame, of ints. Only private contracts cite it.
-use Rattle.std.specs.Prelude.{ℕ, ◌≡◌, ◌<◌, ◌+◌, ℤ, pos, Bool, true, false, List, [], ◌∷◌, ◌++◌, length, map, slice_set, Option, Some, None}
-use Rattle.std.specs.List.{range_with_len}
-use Rattle.porch_objects.specs.Store.{Value, number, indeterminate, Object}
+use Rattle.std.specs.Prelude.{ℕ, ◌≡◌, ◌<◌, ◌+◌, ℤ, pos, List, [], ◌∷◌, ◌++◌, length, map, slice_set, Option, Some, None, ⊤}
+use Rattle.porch_objects.specs.Store.{Value, number, indeterminate, one_of, Object, Activation, Store, store_of}
 use Rattle.porch_flat.specs.Valid.{int_type}
 use Rattle.porch_abstract.specs.declared.effects.Effect.{Effect}
 use Rattle.porch_abstract.specs.declared.effects.Effect.TheVariants.{On, Set, Show, Go, Count, End, Meet}
-use Rattle.porch_abstract.specs.declared.phase.Phase.{Phase}
+use Rattle.porch_abstract.specs.declared.phase.Phase as kept
 use Rattle.porch_abstract.specs.declared.phase.Phase.TheVariants.{Begun, Running, Over}
 use Rattle.porch_abstract.specs.declared.run.Run.{Run}
-use Rattle.porch_abstract.specs.Machine.{Frame, State, Next, Goes, Ends, Meets}
+use Rattle.porch_abstract.specs.Machine.{Frame, Phase, before, running, over, State, Next, Goes, Ends, Meets}
 
 -- the value of a variable
 abbrev pub value_of : Option ℤ → Value
@@ -16,38 +15,47 @@ value_of None = indeterminate
 value_of (Some z) = number z
 
 -- the object of an int variable
-abbrev pub int_object : Bool → Option ℤ → Object
-int_object alive x = record { root = record { ty = int_type; count = 1 }; alive = alive; leaves = value_of x ∷ [] }
+abbrev pub int_object : Option ℤ → Object
+int_object x = record { root = one_of int_type; leaves = value_of x ∷ [] }
 
 -- the frame of main
-abbrev pub main_frame : ℕ → ℕ → Frame
-main_frame next count = record { function = 0; next = next; objects = range_with_len 0 count; into = None }
+abbrev pub main_frame : ℕ → Frame
+main_frame next = record { function = 0; next = next; into = None }
 
-abbrev pub frames_in : Phase → ℕ → ℕ → List Frame
-frames_in Begun next count = []
-frames_in Running next count = main_frame next count ∷ []
-frames_in Over next count = []
+abbrev pub phase_in : kept.Phase → ℕ → Phase
+phase_in Begun next = before
+phase_in Running next = running (main_frame next) []
+phase_in Over next = over
 
-abbrev pub is_running : Phase → Bool
-is_running Running = true
-is_running _ = false
+-- the call of main, which is the first of all
+abbrev pub main_call : List (Option ℤ) → Activation
+main_call vars = record { number = 0; variables = map int_object vars }
+
+-- so many calls were made, and these haven't returned
+abbrev pub calls_alone : List Activation → ℕ → Store
+calls_alone calls called = record { globals = []; calls = calls; blocks = []; called = called; allocated = 0; checkpoints = 0 }
+
+abbrev pub store_in : kept.Phase → List (Option ℤ) → Store
+store_in Begun vars = store_of []
+store_in Running vars = calls_alone (main_call vars ∷ []) 1
+store_in Over vars = calls_alone [] 1
 
 -- the state of so much that is kept
-abbrev pub state_in : Phase → List (Option ℤ) → ℕ → List ℕ → ℕ → State
+abbrev pub state_in : kept.Phase → List (Option ℤ) → ℕ → List ℕ → ℕ → State
 state_in phase vars next output turns =
-    record { frames = frames_in phase next (length vars); objects = map (int_object (is_running phase)) vars; output = output; turns = turns }
+    record { phase = phase_in phase next; store = store_in phase vars; output = output; turns = turns; taken = 0 }
 
 abbrev pub state_of : Run → State
 state_of run = state_in run.phase run.vars.items run.next run.output.items run.turns
 
--- turn 1 was counted, unless the run has not begun, where there are no variables yet
-abbrev pub IsCountedIn : Phase → List (Option ℤ) → ℕ → Type 0
-IsCountedIn Begun vars turns = vars ≡ []
-IsCountedIn Running vars turns = 0 < turns
-IsCountedIn Over vars turns = 0 < turns
+-- turn 1 was counted, unless the run has not begun
+abbrev pub IsCountedIn : kept.Phase → ℕ → Type 0
+IsCountedIn Begun turns = ⊤
+IsCountedIn Running turns = 0 < turns
+IsCountedIn Over turns = 0 < turns
 
 abbrev pub IsCounted : Run → Type 0
-IsCounted run = IsCountedIn run.phase run.vars.items run.turns
+IsCounted run = IsCountedIn run.phase run.turns
 
 -- what an effect leads to
 abbrev pub effected : List (Option ℤ) → ℕ → List ℕ → ℕ → Effect → Next

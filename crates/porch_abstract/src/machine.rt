@@ -1,8 +1,9 @@
 //! The abstract machine.
 
 ghost use Rattle.std.specs.Prelude.{◌≡◌, ◌<◌, ◌^◌, IsTrue, IfOk};
-ghost use Rattle.porch_abstract.specs.Machine.{next};
-ghost use Rattle.porch_abstract.specs.Run.{begin, counts_next};
+ghost use Rattle.porch_objects.specs.Meaning.{without_input};
+ghost use Rattle.porch_abstract.specs.Machine.{begin, next};
+ghost use Rattle.porch_abstract.specs.Run.{counts_next};
 ghost use Rattle.porch_abstract.specs.Held.{Fits, Continues, Answers};
 
 use crate::phase::{AStep, Phase};
@@ -22,21 +23,22 @@ pub struct Abstract {
 }
 
 impl Model for Abstract {
+    ghost use Rattle.porch_objects.specs.Meaning.{without_input};
     ghost use Rattle.porch_abstract.specs.Held.{Held};
     ghost use Rattle.porch_abstract.specs.Kept.{state_of, IsCounted};
 
     ghost Value = { Held };
 
-    ghost view = { λ a. record { widths = a.widths; state = state_of a.run; labels = a.labels } };
+    ghost view = { λ a. record { under = without_input a.widths; state = state_of a.run; labels = a.labels } };
 
     ghost invariant = { λ a. IsCounted a.run };
 }
 
 impl Abstract {
-    /// A run before turn 1, for these widths of `long`.
+    /// A run before turn 1, for these widths of `long`, over an input that is empty.
     pub fn new(alloc: Global, program: &Valid, widths: Widths) -> Result<Abstract, AllocError>
-        ensures begins { IfOk result (λ a. a.state ≡ begin) }
-        ensures widths { IfOk result (λ a. a.widths ≡ widths) }
+        ensures begins { IfOk result (λ a. a.state ≡ begin program.now) }
+        ensures under { IfOk result (λ a. a.under ≡ without_input widths) }
         ensures fits { IfOk result (λ a. Fits program.now a) }
     {
         let labels = Labels::new(alloc, program.main().commands.as_slice())?;
@@ -53,10 +55,10 @@ impl Abstract {
     pub fn step(&mut self, program: &Valid) -> Result<AStep, AllocError>
         requires fits { Fits program.now self.old }
         requires continues { Continues self.old.state }
-        requires turns { IsTrue (counts_next program.now self.old.widths self.old.state.frames) → self.old.state.turns < 2 ^ 62 }
-        ensures steps { Answers (next program.now self.old.widths self.old.state) self.old.state self.new.state result }
+        requires turns { IsTrue (counts_next program.now self.old.under self.old.state.phase) → self.old.state.turns < 2 ^ 62 }
+        ensures steps { Answers (next program.now self.old.under self.old.state) self.old.state self.new.state result }
         ensures fits { Fits program.now self.new }
-        ensures widths_same { self.new.widths ≡ self.old.widths }
+        ensures under_same { self.new.under ≡ self.old.under }
         ensures goes_on { result ≡ Ok AStep.Went → Continues self.new.state }
     {
         match self.run.phase {
@@ -69,14 +71,15 @@ impl Abstract {
     /// Whether the next step counts a turn. It takes no memory.
     pub fn turn_next(&self, program: &Valid) -> bool
         requires { Fits program.now self.now }
-        ensures { result ≡ counts_next program.now self.now.widths self.now.state.frames }
+        ensures { result ≡ counts_next program.now self.now.under self.now.state.phase }
     {
         match self.run.phase {
-            Phase::Begun | Phase::Over => true,
+            Phase::Begun => true,
             Phase::Running => is_turn(command_at(
                 program.main().commands.as_slice(),
                 self.run.next,
             )),
+            Phase::Over => false,
         }
     }
 

@@ -1,7 +1,7 @@
 //! What is kept of a run, and how an effect changes it.
 
-ghost use Rattle.std.specs.Prelude.{◌≡◌, ◌<◌, ◌+◌, ◌^◌, ℕ, Some, IfOk, OnOk, OnErr, slice_get, slice_set, length, replicate, IsTrue};
-ghost use Rattle.porch_abstract.specs.Run.{begin, counts};
+ghost use Rattle.std.specs.Prelude.{◌≡◌, ◌<◌, ◌+◌, ◌^◌, ℕ, [], Some, IfOk, OnOk, OnErr, slice_get, slice_set, length, replicate, IsTrue};
+ghost use Rattle.porch_flat.specs.Parts.{counts};
 
 use crate::effects::{Effect, compute};
 use crate::phase::{AStep, Phase};
@@ -62,7 +62,7 @@ impl Run {
 
     /// Before turn 1.
     pub(crate) fn new(alloc: Global) -> Run
-        ensures begins { state_of result ≡ begin }
+        ensures begins { state_of result ≡ state_in Phase.Begun [] 0 [] 0 }
         ensures counted { IsCounted result }
     {
         Run {

@@ -9,7 +9,7 @@ use Rattle.porch_values.specs.declared.acts.Act.{Act}
 use Rattle.porch_flat.specs.declared.flat.Command.{Command}
 use Rattle.porch_flat.specs.declared.flat.Command.TheVariants as command
 use Rattle.porch_flat.specs.declared.flat.Flat.{Flat}
-use Rattle.porch_abstract.specs.Run.{counts}
+use Rattle.porch_flat.specs.Parts.{counts}
 use Rattle.porch_machine.specs.Column.{Frame, Bytes, Setting, Column, Goes, Shows, Ends, Traps, Full, column, step_in, code, after, returned, received, resulted, onward, at_label}
 use Rattle.porch_machine.specs.ByteRun.{counts_next}
 

@@ -51,7 +51,7 @@ exec_is_setting = record { layout_is = refl; stack_least = omega arith; stack_mo
 
 module _ (p : Program) (flat : Flat) (budget : ℕ) (compiled : IsCompiled p flat) (law : RunsAgree) (ends : RunsEnd) where
   agrees_with : (r : ByteRun) → RunsTo flat exec_setting budget r → EndAgrees (meaning_in p budget) r r.ending
-  agrees_with r run = law flat exec_setting budget r (meaning_in p budget) compiled.valid exec_is_setting run (compiled.same (widths_of exec_setting.layout) budget [])
+  agrees_with r run = law flat exec_setting budget r (meaning_in p budget) compiled.valid exec_is_setting run (compiled.same (without_input (widths_of exec_setting.layout)) budget)
 
   ran_program : (out out' : Option (List ℕ)) (ending : ByteEnd) (turns : ℕ) → RanBytes flat exec_setting budget out out' ending turns → RanProgram p budget out out' ending turns
   ran_program out out' ending turns ran = record { flat = flat; compiled = compiled; ran = ran; agrees = agrees_with (run_by ending turns ran.output) ran.run }

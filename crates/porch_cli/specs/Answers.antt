@@ -14,7 +14,7 @@ use Rattle.porch_syntax.specs.Language.{IsSource, IsRefusal}
 use Rattle.porch_types.specs.Leaves.{kind_types}
 use Rattle.porch_values.specs.declared.acts.Act.{Act}
 use Rattle.porch_objects.specs.Meaning as meaning
-use Rattle.porch_objects.specs.Meaning.{Meaning}
+use Rattle.porch_objects.specs.Meaning.{Meaning, without_input}
 use Rattle.porch_meaning.specs.Mean.{mean}
 use Rattle.porch_flat.specs.declared.flat.Flat.{Flat}
 use Rattle.porch_flat.specs.Valid.{IsValid}
@@ -38,7 +38,7 @@ exec_setting = record { layout = le64; stack = 1048576; heap = 8388608 }
 
 -- the meaning of a program that takes no input, for the width of long in that layout
 abbrev pub meaning_in : Program → ℕ → Meaning
-meaning_in p turns = mean kind_types p (widths_of exec_setting.layout) turns []
+meaning_in p turns = mean kind_types p (without_input (widths_of exec_setting.layout)) turns
 
 -- This much of the source was read: to its end, or past 1,048,576 bytes.
 abbrev pub HasRead : Option (List ℕ) → Option (List ℕ) → List ℕ → Type 0

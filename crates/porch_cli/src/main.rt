@@ -9,8 +9,6 @@ mod compiled;
 mod exec;
 mod line;
 mod reading;
-#[cfg(test)]
-mod side_by_side;
 mod status;
 #[cfg(test)]
 mod tests;

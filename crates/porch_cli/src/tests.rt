@@ -386,9 +386,15 @@ fn each_act_and_rule_has_its_name(rt: HostRuntime) -> Result<(), Fail> {
         rule: Rule::WideConstant,
     });
     crate::top::close(b"ab\ncd\nef", refused, &mut err);
+    let full = Status::StackFull {
+        asked: 4112,
+        left: 4096,
+    };
+    crate::top::close(b"", full, &mut err);
     assert_eq!(rt;
         err.held(),
-        b"trap Relation 18446744073709551615\nrefused WideConstant 3 1\n".as_slice()
+        b"trap Relation 18446744073709551615\nrefused WideConstant 3 1\nstack full 4112 4096\n".as_slice()
     );
+    assert_eq!(rt; number_of_status(full), 4);
     Ok(())
 }

@@ -9,7 +9,7 @@ use Rattle.std.proofs.lemmas.Bool.Decides.{nat_tests}
 use Rattle.std.specs.List.{position, position_or_len}
 use Rattle.porch_flat.specs.declared.flat.Command.{Command}
 use Rattle.porch_flat.specs.Places.{is_label, place_of_label}
-use Rattle.porch_flat.specs.Labelled.{first_place}
+use Rattle.porch_flat.specs.inside.FirstPlaces.{first_place}
 
 position_push : {X : Type 0} (p : X → Bool) (xs : List X) (y : X) → position p (xs ++ y ∷ []) ≡ first_place (position p xs) (p y) (length xs)
 position_push p xs y =

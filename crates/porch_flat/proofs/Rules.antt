@@ -11,7 +11,7 @@ use Rattle.porch_flat.specs.declared.flat.Command.{Command}
 use Rattle.porch_flat.specs.declared.flat.Function.{Function}
 use Rattle.porch_flat.specs.declared.flat.Flat.{Flat}
 use Rattle.porch_flat.specs.Valid.{IsFunction, IsMain, IsValid}
-use Rattle.porch_flat.specs.Checked.{IsCommand, AreCommands}
+use Rattle.porch_flat.specs.inside.Checked.{IsCommand, AreCommands}
 
 last_or_before : (k at : ℕ) → k < at + 1 → (k < at) ⊎ (k ≡ at)
 last_or_before k at h = elim (cases_lt k at) [ inl a ↦ inl a | inr b ↦ inr (omega arith) ]

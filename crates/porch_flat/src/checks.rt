@@ -7,7 +7,7 @@ ghost use Rattle.porch_values.specs.Integers.{in_range};
 ghost use Rattle.porch_flat.specs.Labelled.{place_in};
 ghost use Rattle.porch_flat.specs.Places.{place_of_label};
 ghost use Rattle.porch_flat.specs.Valid.{IsOperand, HasParts, Leads, GoesOnWell, IsFunction, IsMain, IsValid, int_type};
-ghost use Rattle.porch_flat.specs.Checked.{IsCommand, AreCommands, HasMainHead};
+ghost use Rattle.porch_flat.specs.inside.Checked.{IsCommand, AreCommands, HasMainHead};
 
 use crate::flat::{Command, Flat, Function, Operand};
 use crate::labels::Labels;

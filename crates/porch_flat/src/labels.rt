@@ -2,7 +2,8 @@
 
 ghost use Rattle.std.specs.Prelude.{◌≡◌, ◌==◌, ℕ, IfOk, OnOk};
 ghost use Rattle.porch_flat.specs.Places.{is_label, place_of_label};
-ghost use Rattle.porch_flat.specs.Labelled.{place_in, first_place};
+ghost use Rattle.porch_flat.specs.Labelled.{place_in};
+ghost use Rattle.porch_flat.specs.inside.FirstPlaces.{first_place};
 
 use crate::flat::Command;
 use indexmap::IndexMap;

@@ -7,8 +7,6 @@
 mod checks;
 pub mod flat;
 pub mod labels;
-#[cfg(test)]
-mod tests;
 pub mod valid;
 
 pub use flat::{Command, Flat, Function, GlobalObject, Init, Operand};

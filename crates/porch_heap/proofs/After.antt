@@ -3,8 +3,8 @@ use Rattle.std.proofs.Common.{◌≡◌, ℕ, zero, suc, ◌+◌, ◌-◌, ◌<�
 use Rattle.std.specs.Prelude.{insert, remove}
 use Rattle.porch_heap.specs.declared.block.Block.{Block}
 use Rattle.porch_heap.specs.Blocks.{Each, Stand}
-use Rattle.porch_heap.specs.Searching.{EndsBefore, Head}
-use Rattle.porch_heap.specs.Chunks.{HasNoRoom, NoRoom, after, widest}
+use Rattle.porch_heap.specs.inside.Searching.{EndsBefore, Head}
+use Rattle.porch_heap.specs.inside.ChunkRow.{HasNoRoom, NoRoom, after, widest}
 use Rattle.porch_heap.proofs.Lists.{stand_end}
 
 pub after_at : (from : ℕ) (xs : List Block) (i : ℕ) (d : Block) → i < length xs → after from (take (suc i) xs) ≡ (get_or xs i d).at + (get_or xs i d).bytes + 1

@@ -5,8 +5,9 @@ use Rattle.std.proofs.lemmas.List.{take_all}
 use Rattle.std.proofs.lemmas.List.Edits.{insert_end, length-insert}
 use Rattle.porch_heap.specs.declared.block.Block.{Block}
 use Rattle.porch_heap.specs.Blocks.{Each, Stand}
-use Rattle.porch_heap.specs.Searching.{Divides, EndsBefore, BeginsBehind}
-use Rattle.porch_heap.specs.Chunks.{ChunkState, Linked, blocks_of, blocks_at, after}
+use Rattle.porch_heap.specs.inside.Searching.{Divides, EndsBefore, BeginsBehind}
+use Rattle.porch_heap.specs.Chunks.{ChunkState, blocks_of}
+use Rattle.porch_heap.specs.inside.ChunkRow.{Linked, blocks_at, after}
 use Rattle.porch_heap.proofs.Lists.{each_left, each_right, head_past}
 use Rattle.porch_heap.proofs.After.{after_append, after_ends}
 use Rattle.porch_heap.proofs.Changes.{stand_insert}

@@ -5,7 +5,7 @@ use Rattle.std.proofs.lemmas.Bool.{lt-ltb, le-ltb, le-leb, lt-leb, ne_eqb}
 use Rattle.std.proofs.lemmas.Bool.Decides.{nat_tests}
 use Rattle.porch_heap.specs.declared.block.Block.{Block}
 use Rattle.porch_heap.specs.Blocks.{Each, Stand, with_block, without, begins, block_around}
-use Rattle.porch_heap.specs.Searching.{EndsBefore, BeginsBehind, Head}
+use Rattle.porch_heap.specs.inside.Searching.{EndsBefore, BeginsBehind, Head}
 use Rattle.porch_heap.proofs.Lists.{each_map, each_parts, each_left, each_right, stand_low, stand_drop}
 
 -- one block more

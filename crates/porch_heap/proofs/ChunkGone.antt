@@ -3,8 +3,9 @@ use Rattle.std.proofs.Common.{◌≡◌, ℕ, zero, suc, ◌<◌, ◌≤◌, ◌
 use Rattle.std.specs.Prelude.{remove}
 use Rattle.std.proofs.lemmas.List.{nil_from_length}
 use Rattle.std.proofs.lemmas.List.Edits.{length-remove, remove-append_left}
-use Rattle.porch_heap.specs.Searching.{Head}
-use Rattle.porch_heap.specs.Chunks.{ChunkState, Linked, blocks_of, blocks_at, begun, rank, after}
+use Rattle.porch_heap.specs.inside.Searching.{Head}
+use Rattle.porch_heap.specs.Chunks.{ChunkState, blocks_of}
+use Rattle.porch_heap.specs.inside.ChunkRow.{Linked, blocks_at, begun, rank, after}
 use Rattle.porch_heap.proofs.Lists.{stand_end}
 use Rattle.porch_heap.proofs.Chunked.{chunk_within, read_stand, blocks_of_parts, blocks_of_append, remove_behind}
 use Rattle.porch_heap.proofs.After.{after_above}

@@ -5,9 +5,9 @@ use Rattle.std.proofs.lemmas.List.Edits.{length-insert, length-remove}
 use Rattle.porch_heap.specs.declared.block.Block.{Block}
 use Rattle.porch_heap.specs.declared.too_large.TooLarge.{TooLarge}
 use Rattle.porch_heap.specs.Blocks.{Stand}
-use Rattle.porch_heap.specs.Searching.{Divides, Head}
-use Rattle.porch_heap.specs.Chunks.{NoRoom, after}
-use Rattle.porch_heap.specs.TooLarge.{AreTooLarge, IsChunk}
+use Rattle.porch_heap.specs.inside.Searching.{Divides, Head}
+use Rattle.porch_heap.specs.inside.ChunkRow.{NoRoom, after}
+use Rattle.porch_heap.specs.inside.TooLarge.{AreTooLarge, IsChunk}
 use Rattle.porch_heap.proofs.Changes.{stand_insert, stand_remove}
 use Rattle.porch_heap.proofs.After.{after_ends, stand_take, stand_rest, stand_append, no_room_more, no_room_insert, no_room_remove, no_room_begin, no_room_append, no_room_take, no_room_drop}
 

@@ -6,8 +6,9 @@ use Rattle.std.proofs.Math.Seq.{take-append-add, drop-append-add}
 use Rattle.std.proofs.lemmas.List.Edits.{insert-append_left, remove-append_left}
 use Rattle.porch_heap.specs.declared.block.Block.{Block}
 use Rattle.porch_heap.specs.Blocks.{Each, Stand}
-use Rattle.porch_heap.specs.Searching.{Divides, EndsBefore, BeginsBehind, Head}
-use Rattle.porch_heap.specs.Chunks.{ChunkState, Linked, blocks_of, blocks_at, rank, after}
+use Rattle.porch_heap.specs.inside.Searching.{Divides, EndsBefore, BeginsBehind, Head}
+use Rattle.porch_heap.specs.Chunks.{ChunkState, blocks_of}
+use Rattle.porch_heap.specs.inside.ChunkRow.{Linked, blocks_at, rank, after}
 use Rattle.porch_heap.proofs.Lists.{each_left, each_right}
 use Rattle.porch_heap.proofs.After.{after_append, after_ends}
 

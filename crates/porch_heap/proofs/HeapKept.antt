@@ -5,9 +5,9 @@ use Rattle.std.proofs.lemmas.List.Edits.{length-insert, length-remove}
 use Rattle.porch_heap.specs.declared.block.Block.{Block}
 use Rattle.porch_heap.specs.declared.hint.Hint.{Hint}
 use Rattle.porch_heap.specs.Blocks.{HeapState, HasSome, IsAlignment, Each, Stand, IsApart, IsFirstGap, HasNoGap, IsGap}
-use Rattle.porch_heap.specs.Searching.{Divides, state}
-use Rattle.porch_heap.specs.Chunks.{after, stop}
-use Rattle.porch_heap.specs.Hints.{Keeps, lowered, start_at}
+use Rattle.porch_heap.specs.inside.Searching.{Divides, state}
+use Rattle.porch_heap.specs.inside.ChunkRow.{after, stop}
+use Rattle.porch_heap.specs.inside.Hints.{Keeps, lowered, start_at}
 use Rattle.porch_heap.proofs.Lists.{each_inserted, each_removed, each_map, stand_low}
 use Rattle.porch_heap.proofs.Changes.{stand_insert, stand_remove, each_insert}
 use Rattle.porch_heap.proofs.Hints.{IsStart, fresh_hints, fewer_places, set_hint, lowered_hints, start_true, hint_at, weaker}

@@ -3,7 +3,7 @@ use Rattle.std.proofs.Common.{◌≡◌, ℕ, zero, suc, ◌+◌, ◌%◌, ◌<�
 use Rattle.std.proofs.lemmas.Bool.{and_parts, ltb-true, ltb-false, leb-true}
 use Rattle.porch_heap.specs.declared.hint.Hint.{Hint}
 use Rattle.porch_heap.specs.Blocks.{HeapState, IsAlignment, IsApart, IsGap}
-use Rattle.porch_heap.specs.Hints.{IsHint, AreHints, lowered}
+use Rattle.porch_heap.specs.inside.Hints.{IsHint, AreHints, lowered}
 use Rattle.porch_heap.proofs.Lists.{each_map}
 
 -- a write at the number that the loop is at

@@ -4,8 +4,9 @@ use Rattle.std.specs.Prelude.{insert, remove}
 use Rattle.std.proofs.lemmas.List.{get_or-set_same}
 use Rattle.std.proofs.lemmas.List.Edits.{length-insert, length-remove}
 use Rattle.porch_heap.specs.declared.block.Block.{Block}
-use Rattle.porch_heap.specs.Searching.{Divides, Head}
-use Rattle.porch_heap.specs.Chunks.{ChunkState, Linked, blocks_of, blocks_at, begun, rank, after}
+use Rattle.porch_heap.specs.inside.Searching.{Divides, Head}
+use Rattle.porch_heap.specs.Chunks.{ChunkState, blocks_of}
+use Rattle.porch_heap.specs.inside.ChunkRow.{Linked, blocks_at, begun, rank, after}
 use Rattle.porch_heap.proofs.Changes.{stand_insert, stand_remove}
 use Rattle.porch_heap.proofs.Chunked.{chunk_within, read_blocks, read_stand, place_in_chunk, chunk_before, blocks_insert, blocks_remove}
 use Rattle.porch_heap.proofs.Linking.{after_insert, after_remove, linked_set, linked_shrunk, blocks_of_begun, blocks_set_next, next_head}

@@ -2,7 +2,8 @@
 use Rattle.std.proofs.Common.{◌≡◌, ℕ, zero, suc, ◌+◌, ◌<◌, ◌≤◌, ◌^◌, List, [], ◌∷◌, ◌++◌, length, set, get_or, append_assoc, length-append, refl, ap, sym, subst, ◌∙◌, arith}
 use Rattle.std.specs.Prelude.{remove}
 use Rattle.porch_heap.specs.Blocks.{Stand}
-use Rattle.porch_heap.specs.Chunks.{ChunkState, Linked, blocks_of, blocks_at, after}
+use Rattle.porch_heap.specs.Chunks.{ChunkState, blocks_of}
+use Rattle.porch_heap.specs.inside.ChunkRow.{Linked, blocks_at, after}
 use Rattle.porch_heap.proofs.Chunked.{read_blocks, read_stand}
 use Rattle.porch_heap.proofs.After.{after_append, stand_append}
 

@@ -16,3 +16,5 @@ pub mod Halves
 pub mod BehindAll
 pub mod Loose
 pub mod Joining
+pub mod FirstGap
+pub mod ComeAndGo

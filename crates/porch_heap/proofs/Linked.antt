@@ -3,8 +3,9 @@ use Rattle.std.proofs.Common.{◌≡◌, ℕ, zero, suc, ◌+◌, ◌-◌, ◌<�
 use Rattle.std.proofs.lemmas.List.{append-nil, take_all}
 use Rattle.porch_heap.specs.declared.block.Block.{Block}
 use Rattle.porch_heap.specs.Blocks.{Each, Stand}
-use Rattle.porch_heap.specs.Searching.{EndsBefore}
-use Rattle.porch_heap.specs.Chunks.{ChunkState, Linked, blocks_of, blocks_at, after, widest}
+use Rattle.porch_heap.specs.inside.Searching.{EndsBefore}
+use Rattle.porch_heap.specs.Chunks.{ChunkState, blocks_of}
+use Rattle.porch_heap.specs.inside.ChunkRow.{Linked, blocks_at, after, widest}
 use Rattle.porch_heap.proofs.Lists.{each_append, each_right, each_map, stand_low, stand_end}
 use Rattle.porch_heap.proofs.Chunked.{blocks_of_parts, read_blocks, read_from}
 use Rattle.porch_heap.proofs.After.{after_append, after_high, ends_after, stand_append, widest_append}

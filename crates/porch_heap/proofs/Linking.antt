@@ -3,8 +3,9 @@ use Rattle.std.proofs.Common.{◌≡◌, ℕ, zero, suc, ◌+◌, ◌<◌, ◌�
 use Rattle.std.specs.Prelude.{insert, remove}
 use Rattle.porch_heap.specs.declared.block.Block.{Block}
 use Rattle.porch_heap.specs.Blocks.{Stand}
-use Rattle.porch_heap.specs.Searching.{Head}
-use Rattle.porch_heap.specs.Chunks.{ChunkState, Linked, blocks_of, blocks_at, begun, after}
+use Rattle.porch_heap.specs.inside.Searching.{Head}
+use Rattle.porch_heap.specs.Chunks.{ChunkState, blocks_of}
+use Rattle.porch_heap.specs.inside.ChunkRow.{Linked, blocks_at, begun, after}
 use Rattle.porch_heap.proofs.Changes.{stand_from}
 use Rattle.porch_heap.proofs.After.{after_above}
 

@@ -3,7 +3,7 @@ use Rattle.std.proofs.Common.{ℕ, zero, suc, ◌+◌, ◌<◌, ◌≤◌, List,
 use Rattle.std.specs.Prelude.{insert, remove}
 use Rattle.porch_heap.specs.declared.block.Block.{Block}
 use Rattle.porch_heap.specs.Blocks.{Each, Stand}
-use Rattle.porch_heap.specs.Searching.{EndsBefore, Head}
+use Rattle.porch_heap.specs.inside.Searching.{EndsBefore, Head}
 
 pub each_map : (P Q : Block → Type 0) → ((b : Block) → P b → Q b) → (bs : List Block) → Each P bs → Each Q bs
 each_map P Q f [] h = tt

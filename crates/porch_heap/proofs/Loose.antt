@@ -1,6 +1,7 @@
 -- How many blocks the first chunks have.
 use Rattle.std.proofs.Common.{◌≡◌, ℕ, zero, suc, ◌+◌, ◌*◌, ◌%◌, ◌<◌, ◌≤◌, List, [], ◌∷◌, length, take, length-append, ap, arith}
-use Rattle.porch_heap.specs.Chunks.{ChunkState, blocks_of, blocks_at}
+use Rattle.porch_heap.specs.Chunks.{ChunkState, blocks_of}
+use Rattle.porch_heap.specs.inside.ChunkRow.{blocks_at}
 
 counted_next : (cs : List ChunkState) (n : ℕ) → n < length cs → length (blocks_of (take (suc n) cs)) ≡ length (blocks_of (take n cs)) + length (blocks_at cs n)
 counted_next [] n less = absurd (omega arith)

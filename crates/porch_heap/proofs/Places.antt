@@ -5,11 +5,13 @@ use Rattle.std.proofs.lemmas.Bool.{cases_lt}
 use Rattle.std.proofs.lemmas.List.{take_all}
 use Rattle.porch_heap.specs.declared.block.Block.{Block}
 use Rattle.porch_heap.specs.Blocks.{IsHeap, Each, Stand, IsApart, IsGap, IsFirstGap, HasNoGap}
-use Rattle.porch_heap.specs.Searching.{EndsBefore, BeginsBehind, Head, Divides, longest, state}
+use Rattle.porch_heap.specs.Gaps.{longest_between}
+use Rattle.porch_heap.specs.inside.Searching.{EndsBefore, BeginsBehind, Head, Divides, state}
 use Rattle.porch_heap.specs.declared.chunks.Place.{Place}
 use Rattle.porch_heap.specs.declared.chunks.Seat.{Seat}
-use Rattle.porch_heap.specs.Chunks.{ChunkState, HasNoRoom, NoRoom, IsBehind, IsFound, after, blocks_of, widest}
-use Rattle.porch_heap.specs.Seats.{number_of}
+use Rattle.porch_heap.specs.Chunks.{ChunkState, blocks_of}
+use Rattle.porch_heap.specs.inside.ChunkRow.{HasNoRoom, NoRoom, IsBehind, IsFound, after, widest}
+use Rattle.porch_heap.specs.inside.Seats.{number_of}
 use Rattle.porch_heap.proofs.Lists.{each_map, each_at, each_parts, each_take, stand_drop, stand_high, stand_low, head_past}
 use Rattle.porch_heap.proofs.After.{after_above, ends_after, stand_take}
 
@@ -121,6 +123,6 @@ hint_room base size from bytes align xs ys heap e none =
     room_below base (base + size) from bytes align xs ys heap.stand e (λ at below multiple low inside apart. none at below (record { multiple = multiple; low = low; high = inside; apart = apart }))
 
 -- the longest row of free bytes is the widest gap before a block or what is free behind all
-pub longest_widest : (from end : ℕ) (xs : List Block) → longest from end xs ≡ max (widest from xs) (end - after from xs)
+pub longest_widest : (from end : ℕ) (xs : List Block) → longest_between from end xs ≡ max (widest from xs) (end - after from xs)
 longest_widest from end [] = omega arith
 longest_widest from end (b ∷ xs) = rw (longest_widest (b.at + b.bytes + 1) end xs) (omega arith)

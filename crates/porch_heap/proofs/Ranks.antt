@@ -6,8 +6,9 @@ use Rattle.std.proofs.lemmas.List.{take-append-le, drop-append-le, drop_all}
 use Rattle.std.proofs.Math.Seq.{take-append-add, drop-append-add}
 use Rattle.porch_heap.specs.declared.block.Block.{Block}
 use Rattle.porch_heap.specs.Blocks.{Each, block_around}
-use Rattle.porch_heap.specs.Searching.{EndsBefore, Head}
-use Rattle.porch_heap.specs.Chunks.{ChunkState, Linked, NoRoom, IsFound, blocks_of, blocks_at, rank, after, stop}
+use Rattle.porch_heap.specs.inside.Searching.{EndsBefore, Head}
+use Rattle.porch_heap.specs.Chunks.{ChunkState, blocks_of}
+use Rattle.porch_heap.specs.inside.ChunkRow.{Linked, NoRoom, IsFound, blocks_at, rank, after, stop}
 use Rattle.porch_heap.proofs.Lists.{each_map}
 use Rattle.porch_heap.proofs.After.{after_append, no_room_append}
 use Rattle.porch_heap.proofs.Changes.{is_round, find_none, ends_not_round, begins_not_round}

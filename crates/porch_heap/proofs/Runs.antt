@@ -3,7 +3,8 @@ use Rattle.std.proofs.Common.{ℕ, zero, suc, ◌+◌, ◌-◌, ◌<◌, ◌≤�
 use Rattle.std.proofs.lemmas.Bool.{cases_lt}
 use Rattle.porch_heap.specs.declared.block.Block.{Block}
 use Rattle.porch_heap.specs.Blocks.{IsHeap, Each, Stand, IsLongestRun}
-use Rattle.porch_heap.specs.Searching.{longest, state}
+use Rattle.porch_heap.specs.Gaps.{longest_between}
+use Rattle.porch_heap.specs.inside.Searching.{state}
 use Rattle.porch_heap.proofs.Lists.{each_map, stand_low, stand_end}
 
 -- a free byte from an address to an end
@@ -33,16 +34,16 @@ behind_first from end b xs h start count run k less =
     let low = free.low in
     record { low = omega arith; high = free.high; apart = (inr (omega arith), free.apart) }
 
-some_run : (from end : ℕ) (xs : List Block) → Stand from end xs → (start : ℕ) × Run from end xs start (longest from end xs)
+some_run : (from end : ℕ) (xs : List Block) → Stand from end xs → (start : ℕ) × Run from end xs start (longest_between from end xs)
 some_run from end [] h = (from, λ k less. record { low = omega arith; high = omega arith; apart = tt })
 some_run from end (b ∷ xs) h =
     let rest = some_run (b.at + b.bytes + 1) end xs h.1 in
-    elim (cases_lt (b.at - from) (longest (b.at + b.bytes + 1) end xs)) [
-      | inl less ↦ (rest.0, λ k e. behind_first from end b xs h rest.0 (longest (b.at + b.bytes + 1) end xs) rest.1 k (omega arith))
+    elim (cases_lt (b.at - from) (longest_between (b.at + b.bytes + 1) end xs)) [
+      | inl less ↦ (rest.0, λ k e. behind_first from end b xs h rest.0 (longest_between (b.at + b.bytes + 1) end xs) rest.1 k (omega arith))
       | inr more ↦ (from, λ k e. before_first from end b xs h k (omega arith))
     ]
 
-most_run : (from end : ℕ) (xs : List Block) → Stand from end xs → (start count : ℕ) → Run from end xs start count → count ≤ longest from end xs
+most_run : (from end : ℕ) (xs : List Block) → Stand from end xs → (start count : ℕ) → Run from end xs start count → count ≤ longest_between from end xs
 most_run from end xs h start zero run = omega arith
 most_run from end [] h start (suc n) run =
     let first = run 0 (omega arith) in
@@ -62,7 +63,7 @@ most_run from end (b ∷ xs) h start (suc n) run =
     ]
 
 -- the longest gap is the longest run
-pub longest_true : (base size : ℕ) (live : List Block) → IsHeap (state base size live) → IsLongestRun (state base size live) (longest base (base + size) live)
+pub longest_true : (base size : ℕ) (live : List Block) → IsHeap (state base size live) → IsLongestRun (state base size live) (longest_between base (base + size) live)
 longest_true base size live heap =
     let found = some_run base (base + size) live heap.stand in
     record {

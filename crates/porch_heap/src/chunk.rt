@@ -1,7 +1,8 @@
 ghost use Rattle.std.specs.Prelude.{◌≡◌, ◌+◌, ◌*◌, ◌<◌, ◌≤◌, ◌^◌, ◌++◌, [], length, take, drop, insert, remove, IfOk, IfSome, IfNone};
 ghost use Rattle.porch_heap.specs.Blocks.{IsAlignment, Stand};
-ghost use Rattle.porch_heap.specs.Searching.{Divides, Head};
-ghost use Rattle.porch_heap.specs.Chunks.{ChunkState, NoRoom, IsFound, after};
+ghost use Rattle.porch_heap.specs.inside.Searching.{Divides, Head};
+ghost use Rattle.porch_heap.specs.Chunks.{ChunkState};
+ghost use Rattle.porch_heap.specs.inside.ChunkRow.{NoRoom, IsFound, after};
 
 use crate::block::Block;
 use crate::place::{Found, first_in, free_before, width};
@@ -35,7 +36,7 @@ impl Model for Chunk {
     ghost view = { λ c. record { from = c.from; blocks = c.blocks.items } };
 
     ghost use Rattle.std.specs.Prelude.{vec_capacity, ◌≤◌};
-    ghost use Rattle.porch_heap.specs.TooLarge.{IsChunk};
+    ghost use Rattle.porch_heap.specs.inside.TooLarge.{IsChunk};
 
     ghost invariant = { λ c. IsChunk c.from c.blocks.items c.too_large × (128 ≤ vec_capacity c.blocks) };
 }

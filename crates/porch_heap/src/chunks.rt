@@ -2,9 +2,10 @@
 
 ghost use Rattle.std.specs.Prelude.{◌≡◌, ◌≢◌, ◌+◌, ◌<◌, ◌≤◌, ◌^◌, length, take, drop, IfSome, IfNone};
 ghost use Rattle.porch_heap.specs.Blocks.{Each, IsAlignment, block_around};
-ghost use Rattle.porch_heap.specs.Searching.{EndsBefore, Head};
-ghost use Rattle.porch_heap.specs.Seats.{blocks_before};
-ghost use Rattle.porch_heap.specs.Chunks.{Linked, NoRoom, IsFound, blocks_of, blocks_at, rank, after, stop, widest};
+ghost use Rattle.porch_heap.specs.inside.Searching.{EndsBefore, Head};
+ghost use Rattle.porch_heap.specs.inside.Seats.{blocks_before};
+ghost use Rattle.porch_heap.specs.Chunks.{blocks_of};
+ghost use Rattle.porch_heap.specs.inside.ChunkRow.{Linked, NoRoom, IsFound, blocks_at, rank, after, stop, widest};
 
 use crate::block::Block;
 use crate::chunk::Chunk;

@@ -2,8 +2,9 @@
 
 ghost use Rattle.std.specs.Prelude.{◌≡◌, ◌+◌, ◌-◌, ◌*◌, ◌<◌, ◌≤◌, ◌^◌, ◌++◌, ◌∷◌, [], length, take, drop, insert, remove, vec_len, vec_capacity};
 ghost use Rattle.porch_heap.specs.Blocks.{Each};
-ghost use Rattle.porch_heap.specs.Searching.{Divides, EndsBefore, Head};
-ghost use Rattle.porch_heap.specs.Chunks.{Linked, blocks_of, blocks_at, begun, rank, after};
+ghost use Rattle.porch_heap.specs.inside.Searching.{Divides, EndsBefore, Head};
+ghost use Rattle.porch_heap.specs.Chunks.{blocks_of};
+ghost use Rattle.porch_heap.specs.inside.ChunkRow.{Linked, blocks_at, begun, rank, after};
 
 use crate::block::Block;
 use crate::chunk::{CHUNK, Chunk, HALF};

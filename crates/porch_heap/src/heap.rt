@@ -1,9 +1,9 @@
 ghost use Rattle.std.specs.Prelude.{◌≡◌, ◌+◌, ◌<◌, ◌≤◌, ◌^◌, ◌⊎◌, ◌↔◌, [], length, IfOk, IfErr, IfSome, IfNone, OnOk, OnErr, OnSome, IsOk, IsTrue};
 ghost use Rattle.porch_heap.specs.Blocks.{HeapState, IsHeap, IsAlignment, IsFirstGap, HasNoGap, IsFullFor, heap_with, heap_without, begins, block_around};
-ghost use Rattle.porch_heap.specs.Searching.{Divides, state};
+ghost use Rattle.porch_heap.specs.inside.Searching.{Divides, state};
 ghost use Rattle.porch_heap.specs.Chunks.{blocks_of};
-ghost use Rattle.porch_heap.specs.Seats.{IsBefore, number_of};
-ghost use Rattle.porch_heap.specs.Hints.{Keeps};
+ghost use Rattle.porch_heap.specs.inside.Seats.{IsBefore, number_of};
+ghost use Rattle.porch_heap.specs.inside.Hints.{Keeps};
 
 use crate::block::{Block, HeapFull, NotABlock};
 use crate::blocks::Blocks;
@@ -36,8 +36,8 @@ impl Model for Heap {
 
     ghost view = { λ h. record { base = h.live.base; bytes = h.bytes; blocks = blocks_of h.live.chunks } };
 
-    ghost use Rattle.porch_heap.specs.Searching.{state};
-    ghost use Rattle.porch_heap.specs.Hints.{Keeps};
+    ghost use Rattle.porch_heap.specs.inside.Searching.{state};
+    ghost use Rattle.porch_heap.specs.inside.Hints.{Keeps};
 
     ghost invariant = { λ h. Keeps (state h.live.base h.bytes (blocks_of h.live.chunks)) h.hints };
 }

@@ -1,6 +1,6 @@
 ghost use Rattle.std.specs.Prelude.{◌≡◌, ◌<◌, ◌≤◌, ◌^◌, map};
 ghost use Rattle.porch_heap.specs.Blocks.{IsAlignment};
-ghost use Rattle.porch_heap.specs.Hints.{start_at, lowered};
+ghost use Rattle.porch_heap.specs.inside.Hints.{start_at, lowered};
 
 /// What is known of requests of at least so many bytes and at least this alignment: there is no place
 /// for one below an address.

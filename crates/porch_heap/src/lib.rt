@@ -19,12 +19,15 @@ mod chunks;
 mod edits;
 mod heap;
 mod hint;
+mod laws;
 mod place;
 mod row;
-#[cfg(test)]
-mod tests;
 mod too_large;
 
 pub use block::{Block, HeapFull, NotABlock};
 pub use blocks::Blocks;
 pub use heap::Heap;
+pub use laws::{
+    blocks_lie_apart, first_gap_is_first, heaps_stay_heaps, longest_run_is_longest,
+    other_blocks_stay,
+};

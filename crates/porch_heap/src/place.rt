@@ -1,7 +1,7 @@
 ghost use Rattle.std.specs.Prelude.{IsTrue, IsFalse, ◌≡◌, ◌≢◌, ◌+◌, ◌%◌, ◌-◌, ◌⊎◌, ◌<◌, ◌≤◌, ◌^◌, ℕ, length, take, drop, IfOk, IfErr, IfSome, IfNone};
 ghost use Rattle.porch_heap.specs.Blocks.{Each, Stand, IsAlignment, block_around};
-ghost use Rattle.porch_heap.specs.Searching.{EndsBefore, Head};
-ghost use Rattle.porch_heap.specs.Chunks.{IsFound, NoRoom, after, widest};
+ghost use Rattle.porch_heap.specs.inside.Searching.{EndsBefore, Head};
+ghost use Rattle.porch_heap.specs.inside.ChunkRow.{IsFound, NoRoom, after, widest};
 
 use crate::block::Block;
 

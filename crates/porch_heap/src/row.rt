@@ -1,9 +1,11 @@
 ghost use Rattle.std.specs.Prelude.{◌≡◌, ◌≢◌, ◌+◌, ◌-◌, ◌%◌, ◌<◌, ◌≤◌, ◌^◌, ℕ, [], length, insert, remove, take, drop, vec_len, vec_capacity, None, IfOk, IfSome, IfNone};
 ghost use Rattle.porch_heap.specs.Blocks.{Each, IsHeap, IsAlignment, IsGap, IsFirstGap, HasNoGap, block_around};
-ghost use Rattle.porch_heap.specs.Searching.{Divides, Head, longest, state};
-ghost use Rattle.porch_heap.specs.Chunks.{HasNoRoom, IsBehind, after, blocks_of, rank, stop};
-ghost use Rattle.porch_heap.specs.TooLarge.{IsRow};
-ghost use Rattle.porch_heap.specs.Seats.{IsSeat, IsBefore, number_of};
+ghost use Rattle.porch_heap.specs.Gaps.{longest_between};
+ghost use Rattle.porch_heap.specs.inside.Searching.{Divides, Head, state};
+ghost use Rattle.porch_heap.specs.Chunks.{blocks_of};
+ghost use Rattle.porch_heap.specs.inside.ChunkRow.{HasNoRoom, IsBehind, after, rank, stop};
+ghost use Rattle.porch_heap.specs.inside.TooLarge.{IsRow};
+ghost use Rattle.porch_heap.specs.inside.Seats.{IsSeat, IsBefore, number_of};
 
 use crate::block::Block;
 use crate::blocks::Blocks;
@@ -41,7 +43,7 @@ impl Model for Row {
     ghost view = { λ r. record { base = r.base; chunks = r.chunks.items } };
 
     ghost use Rattle.std.specs.Prelude.{vec_len, vec_capacity};
-    ghost use Rattle.porch_heap.specs.TooLarge.{IsRow};
+    ghost use Rattle.porch_heap.specs.inside.TooLarge.{IsRow};
 
     ghost invariant = { λ r. IsRow r.base r.count r.chunks.items (vec_len r.chunks) (vec_len r.spares) (vec_capacity r.chunks) (vec_capacity r.spares) };
 }
@@ -139,7 +141,7 @@ impl Row {
     /// The longest run of free bytes among so many from the base on.
     pub(crate) fn longest_run(&self, size: u64) -> u64
         requires { IsHeap (state self.now.base size (blocks_of self.now.chunks)) }
-        ensures { result ≡ longest self.now.base (self.now.base + size) (blocks_of self.now.chunks) }
+        ensures { result ≡ longest_between self.now.base (self.now.base + size) (blocks_of self.now.chunks) }
     {
         let behind = behind_all(self.chunks.as_slice(), self.base);
         widest_of(self.chunks.as_slice(), self.base).max(self.base + size - behind)

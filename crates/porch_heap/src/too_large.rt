@@ -1,8 +1,8 @@
 ghost use Rattle.std.specs.Prelude.{◌≡◌, max, ℕ, List};
 ghost use Rattle.porch_heap.specs.declared.block.Block.{Block};
 ghost use Rattle.porch_heap.specs.Blocks.{IsAlignment};
-ghost use Rattle.porch_heap.specs.Chunks.{NoRoom};
-ghost use Rattle.porch_heap.specs.TooLarge.{AreTooLarge};
+ghost use Rattle.porch_heap.specs.inside.ChunkRow.{NoRoom};
+ghost use Rattle.porch_heap.specs.inside.TooLarge.{AreTooLarge};
 
 /// For each alignment, a number of bytes that find no place before any block of a chunk. More of
 /// them don't either.

@@ -19,7 +19,7 @@ use Rattle.porch_layout.specs.declared.fault.LayoutRule.TheVariants.{UnknownKey}
 use Rattle.porch_layout.specs.declared.fault.LayoutFault.{LayoutFault}
 use Rattle.porch_layout.specs.declared.fault.LayoutFault.TheVariants.{BadLayout, NoMemory}
 use Rattle.porch_layout.specs.Words.{key_name}
-use Rattle.porch_layout.specs.Layouts.{IsSize, IsAlignment, IsLayout, layout}
+use Rattle.porch_layout.specs.Layouts.{IsSize, IsAlignment, IsAlignmentWithin, IsLayout, layout}
 use Rattle.porch_layout.specs.Files.{UnlessMemory, layout_of, layout_of_tables, tables_of, layout_at, layout_of_data, layout_in, layout_by_keys, are_layout_keys, is_layout_key, choice_of, sizes, alignments, number_in, number_at, valued, and_then, order_at}
 
 -- the keys of a map are those of its members
@@ -58,24 +58,20 @@ found_next P p x rest n here more =
       | false ↦ λ e h. more h
     ] refl
 
-IsPower : ℕ → Type 0
-IsPower n = (n ≡ 1) ⊎ (n ≡ 2) ⊎ (n ≡ 4) ⊎ (n ≡ 8)
-
 -- the sizes and alignments that are chosen
 choice_of-size : (most : ℕ) (z : ℤ) (n : ℕ) → choice_of sizes most z ≡ Some n → IsSize n
 choice_of-size most z n h =
     let test : ℕ → Bool = λ n. int_eq (pos n) z && nat_le n most in
     (found_next IsSize test 4 _ n (inl refl) (found_next IsSize test 8 None n (inr refl) (λ e. absurd (cc))) h).0
 
-choice_of-alignment : (most : ℕ) (z : ℤ) (n : ℕ) → choice_of alignments most z ≡ Some n → IsAlignment most n
-unfolding IsPower
+choice_of-alignment : (most : ℕ) (z : ℤ) (n : ℕ) → choice_of alignments most z ≡ Some n → IsAlignmentWithin most n
 choice_of-alignment most z n h =
     let test : ℕ → Bool = λ n. int_eq (pos n) z && nat_le n most in
-    let found : IsPower n × (test n ≡ true) =
-    found_next IsPower test 1 _ n (search rules) (found_next IsPower test 2 _ n (search rules) (found_next IsPower test 4 _ n (search rules) (found_next IsPower test 8 None n (search rules) (λ e. absurd (cc))))) h
+    let found : IsAlignment n × (test n ≡ true) =
+    found_next IsAlignment test 1 _ n (inl refl) (found_next IsAlignment test 2 _ n (inr (inl refl)) (found_next IsAlignment test 4 _ n (inr (inr (inl refl))) (found_next IsAlignment test 8 None n (inr (inr (inr refl))) (λ e. absurd (cc))))) h
     in
     let (same, less) = and_parts (int_eq (pos n) z) (nat_le n most) found.1 in
-    record { power = found.0; most = grind (arith, nat_tests) }
+    record { alignment = found.0; within = grind (arith, nat_tests) }
 
 -- a number that is taken was a choice
 number_at-choice : (key : LayoutKey) (choices : List ℕ) (most : ℕ) (P : ℕ → Type 0) → ((z : ℤ) (n : ℕ) → choice_of choices most z ≡ Some n → P n) → (d : Option Data) (n : ℕ) → number_at key choices most d ≡ Ok n → P n
@@ -99,8 +95,8 @@ and_then-ok (Ok x) next y P h use_it = use_it x refl h
 number_in-size : (key : LayoutKey) (most : ℕ) (table : Members) (n : ℕ) → number_in key sizes most table ≡ Ok n → IsSize n
 number_in-size key most table = number_at-choice key sizes most IsSize (choice_of-size most) (get_member (key_name key) table)
 
-number_in-alignment : (key : LayoutKey) (most : ℕ) (table : Members) (n : ℕ) → number_in key alignments most table ≡ Ok n → IsAlignment most n
-number_in-alignment key most table = number_at-choice key alignments most (IsAlignment most) (choice_of-alignment most) (get_member (key_name key) table)
+number_in-alignment : (key : LayoutKey) (most : ℕ) (table : Members) (n : ℕ) → number_in key alignments most table ≡ Ok n → IsAlignmentWithin most n
+number_in-alignment key most table = number_at-choice key alignments most (IsAlignmentWithin most) (choice_of-alignment most) (get_member (key_name key) table)
 
 -- a table that describes a layout describes one that may be used
 layout_by_keys-ok : (table : Members) (l : Layout) → layout_by_keys table ≡ Ok l → IsLayout l

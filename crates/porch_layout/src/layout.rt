@@ -1,5 +1,7 @@
+//! A layout, and the six that have names.
+
 ghost use Rattle.std.specs.Prelude.{◌≡◌, IfSome};
-ghost use Rattle.porch_layout.specs.Layouts.{IsLayout, built_in_of};
+ghost use Rattle.porch_layout.specs.Layouts.{IsLayout, layout, built_in_of};
 
 /// How the memory of a program is laid out. A char has 1 byte, a short 2, an int 4.
 ///
@@ -24,8 +26,8 @@ pub struct Layout {
     pub least_struct: u8,
 }
 
-/// The layout that has this name without a layouts file, one of `le32`, `be32`, `le64`, `be64`, `be32p`
-/// and `le32l`. It takes no memory.
+/// The layout that has this name without a layouts file, one of `le32`, `be32`, `le64`, `be64`,
+/// `be32p` and `le32l`. It takes no memory.
 pub fn built_in(name: &str) -> Option<Layout>
     ensures layout { result ≡ built_in_of name.now }
     ensures allowed { IfSome result IsLayout }
@@ -43,7 +45,7 @@ pub fn built_in(name: &str) -> Option<Layout>
 
 // A layout whose integers and pointers are aligned at their sizes, with pointers as long as `long`.
 fn with_long(big: bool, long: u8) -> Layout
-    ensures { result ≡ record { big = big; long = long; pointer = long; align_short = 2; align_int = 4; align_long = long; align_pointer = long; least_struct = 1 } }
+    ensures { result ≡ layout big long long 2 4 long long 1 }
 {
     Layout {
         big,
@@ -59,7 +61,7 @@ fn with_long(big: bool, long: u8) -> Layout
 
 // A layout of 32 bits with one alignment for all but char.
 fn packed(big: bool, align: u8) -> Layout
-    ensures { result ≡ record { big = big; long = 4; pointer = 4; align_short = align; align_int = align; align_long = align; align_pointer = align; least_struct = 1 } }
+    ensures { result ≡ layout big 4 4 align align align align 1 }
 {
     Layout {
         big,

@@ -15,10 +15,10 @@ extents = extent_of le64 kind_types
 pub record AreInts (vars : List ℕ) : Type 0 where
   pub ints : All (λ ty. ty ≡ 4) vars
 
-first_int : (ty : ℕ) (rest : List ℕ) → AreInts (ty ∷ rest) → ty ≡ 4
+pub first_int : (ty : ℕ) (rest : List ℕ) → AreInts (ty ∷ rest) → ty ≡ 4
 first_int ty rest all = all.ints 0 0 (omega arith)
 
-later_ints : (ty : ℕ) (rest : List ℕ) → AreInts (ty ∷ rest) → AreInts rest
+pub later_ints : (ty : ℕ) (rest : List ℕ) → AreInts (ty ∷ rest) → AreInts rest
 later_ints ty rest all = record { ints = λ k d h. all.ints (suc k) d (omega (arith, h)) }
 
 next_place : (free k : ℕ) → round_up free 4 ≡ 8 * k → round_up (round_up free 4 + 4 + 1) 4 ≡ 8 * (k + 1)

@@ -4,7 +4,7 @@ use Rattle.porch_layout.specs.declared.layout.Layout.{Layout}
 use Rattle.porch_metrics.specs.Extents.{Extent, extent_of, round_up}
 use Rattle.porch_flat.specs.declared.flat.Flat.{Flat}
 use Rattle.porch_flat.specs.declared.flat.GlobalObject.{GlobalObject}
-use Rattle.porch_abstract.specs.Machine.{vars_of}
+use Rattle.porch_flat.specs.Parts.{vars_of}
 
 -- where objects of these types begin: each at the lowest multiple of its alignment from a free place on, with at least one
 -- byte between it and the one before

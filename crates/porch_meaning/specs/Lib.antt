@@ -1,3 +1,4 @@
-pub mod State
+-- the meaning of a tree
 pub mod Mean
+-- programs that are worked out
 pub mod Worked

@@ -5,7 +5,7 @@ use Rattle.porch_syntax.specs.Tree.{Node, variable, whole, character, nested, pr
 use Rattle.porch_types.specs.Leaves.{kind_types}
 use Rattle.porch_values.specs.declared.acts.Act.TheVariants.{Overflow, Indeterminate}
 use Rattle.porch_values.specs.declared.widths.Widths.{Widths}
-use Rattle.porch_objects.specs.Meaning.{Ending, Ended, Met, Paused}
+use Rattle.porch_objects.specs.Meaning.{without_input, Ending, Ended, Met, Paused}
 use Rattle.porch_meaning.specs.Mean.{mean}
 
 abbrev pub wide_only : Widths
@@ -30,7 +30,7 @@ actions (a ∷ more) = action a (actions more)
 -- the program with these declarations and statements has this output, makes these turns and ends so, within n turns
 abbrev pub Means : List (Option Node) → List Action → ℕ → List ℕ → ℕ → Ending → Type 0
 Means declarations statements n output turns ending =
-    mean kind_types (record { declarations = declarations; actions = actions statements }) wide_only n [] ≡ record { output = output; marks = []; turns = turns; ending = ending }
+    mean kind_types (record { declarations = declarations; actions = actions statements }) (without_input wide_only) n ≡ record { output = output; marks = []; turns = turns; ending = ending }
 
 -- int i = 0; while (i < 3) { putchar('0' + i); i = i + 1; } return 0;
 abbrev pub counting : List Action

@@ -9,16 +9,13 @@ use Rattle.porch_types.specs.declared.shapes.Ty.{Ty}
 use Rattle.porch_types.specs.declared.shapes.Ty.TheVariants.{Whole, Pointer, Array, Struct}
 use Rattle.porch_types.specs.Leaves.{parts_of, leaves_together, leaf_count, leaves_of, IsFormed}
 use Rattle.porch_layout.specs.declared.layout.Layout.{Layout}
-use Rattle.porch_layout.specs.Layouts.{IsLayout, IsSize}
+use Rattle.porch_layout.specs.Layouts.{IsAlignment, IsLayout, IsSize}
 use Rattle.porch_metrics.specs.Extents.{Extent, kind_extent, round_up, greatest_align, member_places, members_end, type_extent, extent_of}
-use Rattle.porch_metrics.specs.Tables.{AreCounted}
+use Rattle.porch_metrics.specs.inside.Tables.{AreCounted}
 use Rattle.porch_metrics.proofs.Extended.{extent_is}
 
-abbrev pub IsPower : ℕ → Type 0
-IsPower n = (n ≡ 1) ⊎ (n ≡ 2) ⊎ (n ≡ 4) ⊎ (n ≡ 8)
-
 pub record IsBounded (e : Extent) (leaves : ℕ) : Type 0 where
-  pub power : IsPower e.align
+  pub power : IsAlignment e.align
   pub size : e.size ≤ 8 * leaves
 
 round_1 : (p x : ℕ) → p ≤ 8 * x → round_up p 1 ≤ 8 * x
@@ -34,13 +31,13 @@ round_8 : (p x : ℕ) → p ≤ 8 * x → round_up p 8 ≤ 8 * x
 round_8 p x h = omega (arith, h)
 
 -- a bound that is a multiple of eight outlasts rounding
-pub round_bound : (p x a : ℕ) → IsPower a → p ≤ 8 * x → round_up p a ≤ 8 * x
+pub round_bound : (p x a : ℕ) → IsAlignment a → p ≤ 8 * x → round_up p a ≤ 8 * x
 round_bound p x a (inl e) h = subst (λ n. round_up p n ≤ 8 * x) (sym e) (round_1 p x h)
 round_bound p x a (inr (inl e)) h = subst (λ n. round_up p n ≤ 8 * x) (sym e) (round_2 p x h)
 round_bound p x a (inr (inr (inl e))) h = subst (λ n. round_up p n ≤ 8 * x) (sym e) (round_4 p x h)
 round_bound p x a (inr (inr (inr e))) h = subst (λ n. round_up p n ≤ 8 * x) (sym e) (round_8 p x h)
 
-pub power_some : (a : ℕ) → IsPower a → (0 < a) × (a ≤ 8)
+pub power_some : (a : ℕ) → IsAlignment a → (0 < a) × (a ≤ 8)
 power_some a (inl e) = (omega arith, omega arith)
 power_some a (inr (inl e)) = (omega arith, omega arith)
 power_some a (inr (inr (inl e))) = (omega arith, omega arith)
@@ -53,8 +50,8 @@ max_is a b =
       | false ↦ λ e. let h : b ≤ a = ltb-false a b e in inl (omega arith)
     ] refl
 
-max_power : (a b : ℕ) → IsPower a → IsPower b → IsPower (max a b)
-max_power a b p q = elim (max_is a b) as (λ _. IsPower (max a b)) [ inl e ↦ subst IsPower (sym e) p | inr e ↦ subst IsPower (sym e) q ]
+max_power : (a b : ℕ) → IsAlignment a → IsAlignment b → IsAlignment (max a b)
+max_power a b p q = elim (max_is a b) as (λ _. IsAlignment (max a b)) [ inl e ↦ subst IsAlignment (sym e) p | inr e ↦ subst IsAlignment (sym e) q ]
 
 size_le : (n : ℕ) → IsSize n → n ≤ 8 * 1
 size_le n (inl e) = omega arith
@@ -63,14 +60,14 @@ size_le n (inr e) = omega arith
 kind_bounded : (l : Layout) (kind : Kind) → IsLayout l → IsBounded (kind_extent l kind) 1
 kind_bounded l Char is = record { power = inl refl; size = omega arith }
 kind_bounded l UChar is = record { power = inl refl; size = omega arith }
-kind_bounded l Short is = record { power = is.align_short.power; size = omega arith }
-kind_bounded l UShort is = record { power = is.align_short.power; size = omega arith }
-kind_bounded l Int is = record { power = is.align_int.power; size = omega arith }
-kind_bounded l UInt is = record { power = is.align_int.power; size = omega arith }
-kind_bounded l Long is = record { power = is.align_long.power; size = size_le l.long is.long }
-kind_bounded l ULong is = record { power = is.align_long.power; size = size_le l.long is.long }
+kind_bounded l Short is = record { power = is.align_short.alignment; size = omega arith }
+kind_bounded l UShort is = record { power = is.align_short.alignment; size = omega arith }
+kind_bounded l Int is = record { power = is.align_int.alignment; size = omega arith }
+kind_bounded l UInt is = record { power = is.align_int.alignment; size = omega arith }
+kind_bounded l Long is = record { power = is.align_long.alignment; size = size_le l.long is.long }
+kind_bounded l ULong is = record { power = is.align_long.alignment; size = size_le l.long is.long }
 
-greatest_power : (f : ℕ → Extent) (leaves : ℕ → ℕ) (least : ℕ) (ms : List ℕ) → IsPower least → All (λ m. IsBounded (f m) (leaves m)) ms → IsPower (greatest_align f least ms)
+greatest_power : (f : ℕ → Extent) (leaves : ℕ → ℕ) (least : ℕ) (ms : List ℕ) → IsAlignment least → All (λ m. IsBounded (f m) (leaves m)) ms → IsAlignment (greatest_align f least ms)
 greatest_power f leaves least [] p a = p
 greatest_power f leaves least (m ∷ ms) p a =
     max_power (f m).align (greatest_align f least ms) (a 0 0 (omega arith)).power (greatest_power f leaves least ms p (λ k d lt. a (suc k) d (omega (arith, lt))))
@@ -106,12 +103,12 @@ array_bound count size leaves h =
 
 type_bounded : (l : Layout) (f : ℕ → Extent) (leaves : ℕ → ℕ) (ty : Ty) → IsLayout l → All (λ m. IsBounded (f m) (leaves m)) (parts_of ty) → IsBounded (type_extent l f ty) (leaf_count leaves ty)
 type_bounded l f leaves (Whole kind) is a = kind_bounded l kind is
-type_bounded l f leaves (Pointer to) is a = record { power = is.align_pointer.power; size = size_le l.pointer is.pointer }
+type_bounded l f leaves (Pointer to) is a = record { power = is.align_pointer.alignment; size = size_le l.pointer is.pointer }
 type_bounded l f leaves (Array of count) is a =
     let b : IsBounded (f of) (leaves of) = a 0 0 (omega arith) in
     record { power = b.power; size = array_bound count (f of).size (leaves of) b.size }
 type_bounded l f leaves (Struct members) is a =
-    let p : IsPower (greatest_align f l.least_struct members) = greatest_power f leaves l.least_struct members is.least_struct.power a in
+    let p : IsAlignment (greatest_align f l.least_struct members) = greatest_power f leaves l.least_struct members is.least_struct.alignment a in
     record { power = p; size = round_bound (members_end f 0 members) (leaves_together leaves members) (greatest_align f l.least_struct members) p (omega (arith, end_bound f leaves 0 0 members a (omega arith))) }
 
 bounded_below : (l : Layout) (types : List Ty) → IsLayout l → AreCounted types → (bound n : ℕ) → n < bound → n < length types → IsBounded (extent_of l types n) (leaves_of types n)

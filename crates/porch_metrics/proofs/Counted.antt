@@ -2,7 +2,7 @@
 use Rattle.std.proofs.Common.{◌≡◌, ℕ, ◌<◌, List, length, slice_get, Some}
 use Rattle.porch_types.specs.declared.shapes.Ty.{Ty}
 use Rattle.porch_types.specs.Leaves.{IsTypes, leaf_count, leaves_of}
-use Rattle.porch_metrics.specs.Tables.{AreCounted}
+use Rattle.porch_metrics.specs.inside.Tables.{AreCounted}
 
 pub counted : (types : List Ty) → IsTypes types
     → ((types : List Ty) (number : ℕ) (ty : Ty) → IsTypes types → slice_get types number ≡ Some ty → leaves_of types number ≡ leaf_count (leaves_of types) ty)

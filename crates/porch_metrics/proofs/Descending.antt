@@ -13,7 +13,7 @@ use Rattle.porch_layout.specs.declared.layout.Layout.{Layout}
 use Rattle.porch_layout.specs.Layouts.{IsLayout}
 use Rattle.porch_metrics.specs.Extents.{extent_of, member_places}
 use Rattle.porch_metrics.specs.Places.{part_place, place_within}
-use Rattle.porch_metrics.specs.Tables.{AreCounted}
+use Rattle.porch_metrics.specs.inside.Tables.{AreCounted}
 use Rattle.porch_metrics.proofs.Bounds.{IsBounded, bounded, place_bound, array_bound}
 
 -- a part that holds a leaf, which is number `part.index` of its whole

@@ -8,7 +8,7 @@ use Rattle.porch_types.specs.declared.shapes.Ty.TheVariants.{Whole, Pointer, Arr
 use Rattle.porch_types.specs.Leaves.{parts_of}
 use Rattle.porch_layout.specs.declared.layout.Layout.{Layout}
 use Rattle.porch_metrics.specs.Extents.{Extent, round_up, greatest_align, member_places, members_end, type_extent, extent_in, extents_from, extents_of, extent_of}
-use Rattle.porch_metrics.specs.Tables.{places_of}
+use Rattle.porch_metrics.specs.inside.Tables.{places_of}
 
 abbrev pub none : Extent
 none = record { size = 0; align = 1 }

@@ -6,3 +6,10 @@ pub mod Measuring
 pub mod Descending
 pub mod Reading
 pub mod Rising
+pub mod ExtentBounds
+pub mod RowPlaces
+pub mod RowAlignment
+pub mod RowsApart
+pub mod Packed
+pub mod PlacesStay
+pub mod LeavesApart

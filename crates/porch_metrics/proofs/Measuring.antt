@@ -9,7 +9,7 @@ use Rattle.porch_layout.specs.declared.layout.Layout.{Layout}
 use Rattle.porch_layout.specs.Layouts.{IsLayout}
 use Rattle.porch_metrics.specs.declared.table.Measured.{Measured}
 use Rattle.porch_metrics.specs.Extents.{Extent, greatest_align, type_extent, extent_in, extents_of, extent_of}
-use Rattle.porch_metrics.specs.Tables.{AreCounted, extent, places_of, AreMeasured, IsSmall}
+use Rattle.porch_metrics.specs.inside.Tables.{AreCounted, extent, places_of, AreMeasured, IsSmall}
 use Rattle.porch_metrics.proofs.Extended.{extents_kept, extents_next, places_same}
 use Rattle.porch_metrics.proofs.Bounds.{IsBounded, bounded, power_some}
 

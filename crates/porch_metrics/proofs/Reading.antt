@@ -13,7 +13,7 @@ use Rattle.porch_metrics.specs.declared.table.Measured.{Measured}
 use Rattle.porch_metrics.specs.declared.table.Table.{Table}
 use Rattle.porch_metrics.specs.Extents.{Extent, round_up, extent_of, member_places}
 use Rattle.porch_metrics.specs.Places.{part_place, place_of, place_within}
-use Rattle.porch_metrics.specs.Tables.{AreCounted, extent, IsTable, IsMember}
+use Rattle.porch_metrics.specs.inside.Tables.{AreCounted, extent, IsTable, IsMember}
 use Rattle.porch_metrics.proofs.Extended.{length-extents}
 use Rattle.porch_metrics.proofs.Bounds.{IsBounded, bounded, array_bound}
 use Rattle.porch_metrics.proofs.Measuring.{few_leaves, parts_few}

@@ -13,22 +13,22 @@ use Rattle.porch_types.specs.declared.parts.Part.{Part}
 use Rattle.porch_types.specs.Leaves.{parts_of, leaves_together, leaf_count, leaves_of, IsFormed}
 use Rattle.porch_types.specs.Rows.{part_at, part_of, element_at, member_at}
 use Rattle.porch_layout.specs.declared.layout.Layout.{Layout}
-use Rattle.porch_layout.specs.Layouts.{IsLayout, IsSize}
+use Rattle.porch_layout.specs.Layouts.{IsAlignment, IsLayout, IsSize}
 use Rattle.porch_metrics.specs.Extents.{Extent, kind_extent, round_up, greatest_align, member_places, members_end, type_extent, extent_of}
 use Rattle.porch_metrics.specs.Places.{part_place, place_within, place_of}
-use Rattle.porch_metrics.specs.Tables.{AreCounted}
+use Rattle.porch_metrics.specs.inside.Tables.{AreCounted}
 use Rattle.porch_metrics.proofs.Extended.{extent_is}
-use Rattle.porch_metrics.proofs.Bounds.{IsPower, bounded}
+use Rattle.porch_metrics.proofs.Bounds.{bounded}
 use Rattle.porch_metrics.proofs.Descending.{MemberIs, member_is, ElementIs, element_is, Lies, lies}
 
-round_ge : (p a : ℕ) → IsPower a → p ≤ round_up p a
+pub round_ge : (p a : ℕ) → IsAlignment a → p ≤ round_up p a
 round_ge p a (inl e) = subst (λ n. p ≤ round_up p n) (sym e) (omega arith)
 round_ge p a (inr (inl e)) = subst (λ n. p ≤ round_up p n) (sym e) (omega arith)
 round_ge p a (inr (inr (inl e))) = subst (λ n. p ≤ round_up p n) (sym e) (omega arith)
 round_ge p a (inr (inr (inr e))) = subst (λ n. p ≤ round_up p n) (sym e) (omega arith)
 
-abbrev Powers : (ℕ → Extent) → List ℕ → Type 0
-Powers f ms = All (λ m. IsPower (f m).align) ms
+abbrev pub Powers : (ℕ → Extent) → List ℕ → Type 0
+Powers f ms = All (λ m. IsAlignment (f m).align) ms
 
 rest_of : (f : ℕ → Extent) (m : ℕ) (ms : List ℕ) → Powers f (m ∷ ms) → Powers f ms
 rest_of f m ms a = λ k d lt. a (suc k) d (omega (arith, lt))
@@ -44,14 +44,14 @@ place_ge f end (m ∷ ms) zero a lt = round_ge end (f m).align (a 0 0 (omega ari
 place_ge f end (m ∷ ms) (suc i) a lt =
     omega (arith, round_ge end (f m).align (a 0 0 (omega arith)), place_ge f (round_up end (f m).align + (f m).size) ms i (rest_of f m ms a) (omega (arith, lt)))
 
-members_inside : (f : ℕ → Extent) (end : ℕ) (ms : List ℕ) (i m : ℕ) → Powers f ms → slice_get ms i ≡ Some m → get_or (member_places f end ms) i 0 + (f m).size ≤ members_end f end ms
+pub members_inside : (f : ℕ → Extent) (end : ℕ) (ms : List ℕ) (i m : ℕ) → Powers f ms → slice_get ms i ≡ Some m → get_or (member_places f end ms) i 0 + (f m).size ≤ members_end f end ms
 members_inside f end [] i m a at = cc
 members_inside f end (o ∷ ms) zero m a at =
     let e : (f o).size ≡ (f m).size = cc in
     omega (arith, e, end_ge f (round_up end (f o).align + (f o).size) ms (rest_of f o ms a))
 members_inside f end (o ∷ ms) (suc i) m a at = members_inside f (round_up end (f o).align + (f o).size) ms i m (rest_of f o ms a) at
 
-members_apart : (f : ℕ → Extent) (end : ℕ) (ms : List ℕ) (i j m : ℕ) → Powers f ms → i < j → j < length ms → slice_get ms i ≡ Some m
+pub members_apart : (f : ℕ → Extent) (end : ℕ) (ms : List ℕ) (i j m : ℕ) → Powers f ms → i < j → j < length ms → slice_get ms i ≡ Some m
     → get_or (member_places f end ms) i 0 + (f m).size ≤ get_or (member_places f end ms) j 0
 members_apart f end [] i j m a lt within at = cc
 members_apart f end (o ∷ ms) i zero m a lt within at = absurd (omega (arith, lt))
@@ -61,19 +61,19 @@ members_apart f end (o ∷ ms) zero (suc j) m a lt within at =
 members_apart f end (o ∷ ms) (suc i) (suc j) m a lt within at =
     members_apart f (round_up end (f o).align + (f o).size) ms i j m (rest_of f o ms a) (omega (arith, lt)) (omega (arith, within)) at
 
-times_apart : (i j s : ℕ) → i < j → i * s + s ≤ j * s
+pub times_apart : (i j s : ℕ) → i < j → i * s + s ≤ j * s
 times_apart i j s lt =
     let h : (i + 1) * s ≤ j * s = mul-le-mul_right s (omega (arith, lt)) in
     let m : (i + 1) * s ≡ i * s + s = grind arith in
     omega (arith, h, m)
 
-together_apart : (f : ℕ → ℕ) (ms : List ℕ) (i j m : ℕ) → i < j → j < length ms → slice_get ms i ≡ Some m → leaves_together f (take i ms) + f m ≤ leaves_together f (take j ms)
+pub together_apart : (f : ℕ → ℕ) (ms : List ℕ) (i j m : ℕ) → i < j → j < length ms → slice_get ms i ≡ Some m → leaves_together f (take i ms) + f m ≤ leaves_together f (take j ms)
 together_apart f [] i j m lt within at = cc
 together_apart f (o ∷ ms) i zero m lt within at = absurd (omega (arith, lt))
 together_apart f (o ∷ ms) zero (suc j) m lt within at = let e : f o ≡ f m = cc in omega (arith, e)
 together_apart f (o ∷ ms) (suc i) (suc j) m lt within at = omega (arith, together_apart f ms i j m (omega (arith, lt)) (omega (arith, within)) at)
 
-powers : (l : Layout) (types : List Ty) (ty : ℕ) (members : List ℕ) → IsLayout l → AreCounted types → slice_get types ty ≡ Some (Struct members) → Powers (extent_of l types) members
+pub powers : (l : Layout) (types : List Ty) (ty : ℕ) (members : List ℕ) → IsLayout l → AreCounted types → slice_get types ty ≡ Some (Struct members) → Powers (extent_of l types) members
 powers l types ty members is formed at = λ k d lt.
     let below : get_or members k d < ty = (formed.each ty (Struct members) at).earlier k d lt in
     (bounded l types (get_or members k d) is formed (omega (arith, below, slice_get_within types ty (Struct members) at))).power
@@ -101,7 +101,7 @@ inside_struct l types ty leaf members part is formed at h =
     let own : extent_of l types ty ≡ type_extent l e (Struct members) = extent_is l types ty (Struct members) f.earlier at in
     let size : (extent_of l types ty).size ≡ round_up (members_end e 0 members) (greatest_align e l.least_struct members) = ap (λ (x : Extent). x.size) own in
     let align : (extent_of l types ty).align ≡ greatest_align e l.least_struct members = ap (λ (x : Extent). x.align) own in
-    let power : IsPower (greatest_align e l.least_struct members) = subst IsPower align (bounded l types ty is formed (slice_get_within types ty (Struct members) at)).power in
+    let power : IsAlignment (greatest_align e l.least_struct members) = subst IsAlignment align (bounded l types ty is formed (slice_get_within types ty (Struct members) at)).power in
     let inside : get_or (member_places e 0 members) m.i 0 + (e part.ty).size ≤ members_end e 0 members = members_inside e 0 members m.i part.ty (powers l types ty members is formed at) m.at in
     let moved : get_or (member_places e 0 members) part.index 0 ≡ get_or (member_places e 0 members) m.i 0 = ap (λ i. get_or (member_places e 0 members) i 0) index in
     omega (arith, inside, moved, size, round_ge (members_end e 0 members) (greatest_align e l.least_struct members) power)
@@ -119,62 +119,62 @@ pub part_inside : (l : Layout) (types : List Ty) (ty leaf : ℕ) (part : Part) �
 part_inside l types ty leaf part is formed h = inside_option l types ty leaf (slice_get types ty) part is formed refl h
 
 -- a multiple of an alignment
-record Multiple (n a : ℕ) : Type 0 where
+pub record Multiple (n a : ℕ) : Type 0 where
   pub q : ℕ
   pub is : n ≡ q * a
 
-by_2 : (s : ℕ) → IsPower s → 2 ≤ s → Multiple s 2
+by_2 : (s : ℕ) → IsAlignment s → 2 ≤ s → Multiple s 2
 by_2 s (inl e) h = absurd (omega (arith, e, h))
 by_2 s (inr (inl e)) h = record { q = 1; is = omega (arith, e) }
 by_2 s (inr (inr (inl e))) h = record { q = 2; is = omega (arith, e) }
 by_2 s (inr (inr (inr e))) h = record { q = 4; is = omega (arith, e) }
 
-by_4 : (s : ℕ) → IsPower s → 4 ≤ s → Multiple s 4
+by_4 : (s : ℕ) → IsAlignment s → 4 ≤ s → Multiple s 4
 by_4 s (inl e) h = absurd (omega (arith, e, h))
 by_4 s (inr (inl e)) h = absurd (omega (arith, e, h))
 by_4 s (inr (inr (inl e))) h = record { q = 1; is = omega (arith, e) }
 by_4 s (inr (inr (inr e))) h = record { q = 2; is = omega (arith, e) }
 
-by_8 : (s : ℕ) → IsPower s → 8 ≤ s → Multiple s 8
+by_8 : (s : ℕ) → IsAlignment s → 8 ≤ s → Multiple s 8
 by_8 s (inl e) h = absurd (omega (arith, e, h))
 by_8 s (inr (inl e)) h = absurd (omega (arith, e, h))
 by_8 s (inr (inr (inl e))) h = absurd (omega (arith, e, h))
 by_8 s (inr (inr (inr e))) h = record { q = 1; is = omega (arith, e) }
 
-by_power : (s a : ℕ) → IsPower s → IsPower a → a ≤ s → Multiple s a
+pub by_power : (s a : ℕ) → IsAlignment s → IsAlignment a → a ≤ s → Multiple s a
 by_power s a p (inl e) h = record { q = s; is = subst (λ x. s ≡ s * x) (sym e) (omega arith) }
 by_power s a p (inr (inl e)) h = subst (Multiple s) (sym e) (by_2 s p (omega (arith, e, h)))
 by_power s a p (inr (inr (inl e))) h = subst (Multiple s) (sym e) (by_4 s p (omega (arith, e, h)))
 by_power s a p (inr (inr (inr e))) h = subst (Multiple s) (sym e) (by_8 s p (omega (arith, e, h)))
 
-size_power : (s : ℕ) → IsSize s → IsPower s
+size_power : (s : ℕ) → IsSize s → IsAlignment s
 size_power s (inl e) = inr (inr (inl e))
 size_power s (inr e) = inr (inr (inr e))
 
 kind_multiple : (l : Layout) (kind : Kind) → IsLayout l → Multiple (kind_extent l kind).size (kind_extent l kind).align
 kind_multiple l Char is = record { q = 1; is = omega arith }
 kind_multiple l UChar is = record { q = 1; is = omega arith }
-kind_multiple l Short is = by_power 2 l.align_short (inr (inl refl)) is.align_short.power is.align_short.most
-kind_multiple l UShort is = by_power 2 l.align_short (inr (inl refl)) is.align_short.power is.align_short.most
-kind_multiple l Int is = by_power 4 l.align_int (inr (inr (inl refl))) is.align_int.power is.align_int.most
-kind_multiple l UInt is = by_power 4 l.align_int (inr (inr (inl refl))) is.align_int.power is.align_int.most
-kind_multiple l Long is = by_power l.long l.align_long (size_power l.long is.long) is.align_long.power is.align_long.most
-kind_multiple l ULong is = by_power l.long l.align_long (size_power l.long is.long) is.align_long.power is.align_long.most
+kind_multiple l Short is = by_power 2 l.align_short (inr (inl refl)) is.align_short.alignment is.align_short.within
+kind_multiple l UShort is = by_power 2 l.align_short (inr (inl refl)) is.align_short.alignment is.align_short.within
+kind_multiple l Int is = by_power 4 l.align_int (inr (inr (inl refl))) is.align_int.alignment is.align_int.within
+kind_multiple l UInt is = by_power 4 l.align_int (inr (inr (inl refl))) is.align_int.alignment is.align_int.within
+kind_multiple l Long is = by_power l.long l.align_long (size_power l.long is.long) is.align_long.alignment is.align_long.within
+kind_multiple l ULong is = by_power l.long l.align_long (size_power l.long is.long) is.align_long.alignment is.align_long.within
 
 assoc : (k q a : ℕ) → k * (q * a) ≡ k * q * a
 assoc k q a = grind arith
 
-times_multiple : (k n a : ℕ) → Multiple n a → Multiple (k * n) a
+pub times_multiple : (k n a : ℕ) → Multiple n a → Multiple (k * n) a
 times_multiple k n a m = record { q = k * m.q; is = ap (λ x. k * x) m.is ∙ assoc k m.q a }
 
 type_multiple : (l : Layout) (f : ℕ → Extent) (ty : Ty) → IsLayout l → All (λ m. Multiple (f m).size (f m).align) (parts_of ty) → Multiple (type_extent l f ty).size (type_extent l f ty).align
 type_multiple l f (Whole kind) is a = kind_multiple l kind is
-type_multiple l f (Pointer to) is a = by_power l.pointer l.align_pointer (size_power l.pointer is.pointer) is.align_pointer.power is.align_pointer.most
+type_multiple l f (Pointer to) is a = by_power l.pointer l.align_pointer (size_power l.pointer is.pointer) is.align_pointer.alignment is.align_pointer.within
 type_multiple l f (Array of n) is a = times_multiple n (f of).size (f of).align (a 0 0 (omega arith))
 type_multiple l f (Struct members) is a =
     record { q = (members_end f 0 members + (greatest_align f l.least_struct members - 1)) / greatest_align f l.least_struct members; is = refl }
 
-multiple_below : (l : Layout) (types : List Ty) → IsLayout l → AreCounted types → (bound n : ℕ) → n < bound → n < length types → Multiple (extent_of l types n).size (extent_of l types n).align
+pub multiple_below : (l : Layout) (types : List Ty) → IsLayout l → AreCounted types → (bound n : ℕ) → n < bound → n < length types → Multiple (extent_of l types n).size (extent_of l types n).align
 multiple_below l types is formed zero n lt within = absurd (omega (arith, lt))
 multiple_below l types is formed (suc bound) n lt within =
     let ty : Ty = get_or types n (Pointer 0) in
@@ -198,7 +198,7 @@ first_option l types n ty (Some part) is formed at e =
     ∙ omega (arith, p)
 
 -- a type begins where its first leaf does
-first_leaf : (l : Layout) (types : List Ty) (n ty : ℕ) → IsLayout l → AreCounted types → place_within n l types ty 0 ≡ 0
+pub first_leaf : (l : Layout) (types : List Ty) (n ty : ℕ) → IsLayout l → AreCounted types → place_within n l types ty 0 ≡ 0
 first_leaf l types zero ty is formed = refl
 first_leaf l types (suc n) ty is formed = first_option l types n ty (part_at types ty 0) is formed refl (λ t. first_leaf l types n t is formed)
 
@@ -250,7 +250,7 @@ struct_some l types ty members is formed at each =
     let some : 0 < (e first).size = each first (f.earlier 0 0 f.occupied) in
     let inside : get_or (member_places e 0 members) 0 0 + (e first).size ≤ members_end e 0 members = members_inside e 0 members 0 first (powers l types ty members is formed at) at_0 in
     let align : (e ty).align ≡ greatest_align e l.least_struct members = ap (λ (x : Extent). x.align) (extent_is l types ty (Struct members) f.earlier at) in
-    let power : IsPower (greatest_align e l.least_struct members) = subst IsPower align (bounded l types ty is formed (slice_get_within types ty (Struct members) at)).power in
+    let power : IsAlignment (greatest_align e l.least_struct members) = subst IsAlignment align (bounded l types ty is formed (slice_get_within types ty (Struct members) at)).power in
     omega (arith, some, inside, round_ge (members_end e 0 members) (greatest_align e l.least_struct members) power)
 
 size_some_type : (l : Layout) (types : List Ty) (n : ℕ) (ty : Ty) → IsLayout l → AreCounted types → slice_get types n ≡ Some ty → ((p : ℕ) → p < n → 0 < (extent_of l types p).size)
@@ -271,7 +271,7 @@ size_some_below l types is formed (suc bound) n lt within =
     (size_some_type l types n ty is formed at (λ p h. size_some_below l types is formed bound p (omega (arith, h, lt)) (omega (arith, h, within))))
 
 -- each type has a byte
-size_some : (l : Layout) (types : List Ty) (n : ℕ) → IsLayout l → AreCounted types → n < length types → 0 < (extent_of l types n).size
+pub size_some : (l : Layout) (types : List Ty) (n : ℕ) → IsLayout l → AreCounted types → n < length types → 0 < (extent_of l types n).size
 size_some l types n is formed within = size_some_below l types is formed (suc n) n (omega arith) within
 
 less_option : (l : Layout) (types : List Ty) (n ty leaf : ℕ) (o : Option Part) → IsLayout l → AreCounted types → ty < length types → part_at types ty leaf ≡ o
@@ -281,7 +281,7 @@ less_option l types n ty leaf None is formed known at e = size_some l types ty i
 less_option l types n ty leaf (Some part) is formed known at e = omega (arith, e part at, part_inside l types ty leaf part is formed at)
 
 -- a leaf begins inside its type
-less : (l : Layout) (types : List Ty) (n ty leaf : ℕ) → IsLayout l → AreCounted types → ty < length types → place_within n l types ty leaf < (extent_of l types ty).size
+pub less : (l : Layout) (types : List Ty) (n ty leaf : ℕ) → IsLayout l → AreCounted types → ty < length types → place_within n l types ty leaf < (extent_of l types ty).size
 less l types zero ty leaf is formed known = size_some l types ty is formed known
 less l types (suc n) ty leaf is formed known =
     less_option l types n ty leaf (part_at types ty leaf) is formed known refl
@@ -295,7 +295,7 @@ record OnePart (a b : Part) : Type 0 where
   pub index : a.index ≡ b.index
 
 -- the last element of those before a leaf is no later than that of a later leaf
-array_order : (i j s a b : ℕ) → i * s ≤ a → a < b → b < j * s + s → j < i → ⊥
+pub array_order : (i j s a b : ℕ) → i * s ≤ a → a < b → b < j * s + s → j < i → ⊥
 array_order i j s a b low lt high back = omega (arith, times_apart j i s back, low, lt, high)
 
 apart_array : (l : Layout) (types : List Ty) (of n a b : ℕ) (pa pb : Part) → ElementIs of (leaves_of types of) n a pa → ElementIs of (leaves_of types of) n b pb → a < b
@@ -362,7 +362,7 @@ apart_option l types ty a b (Some (Struct members)) pa pb is formed at h k lt =
     apart_struct l types ty members a b pa pb is formed at (member_is (leaves_of types) members 0 0 a pa (omega arith) h) (member_is (leaves_of types) members 0 0 b pb (omega arith) k) lt
 
 -- each leaf of a struct is held by a member, unless it stands before them
-member_total : (f : ℕ → ℕ) (ms : List ℕ) (index first place : ℕ) → first ≤ place → place < first + leaves_together f ms → (part : Part) × (member_at f ms index first place ≡ Some part)
+pub member_total : (f : ℕ → ℕ) (ms : List ℕ) (index first place : ℕ) → first ≤ place → place < first + leaves_together f ms → (part : Part) × (member_at f ms index first place ≡ Some part)
 member_total f [] index first place le lt = absurd (omega (arith, le, lt))
 member_total f (m ∷ ms) index first place le lt =
     elim (nat_lt place (first + f m)) as (λ b. nat_lt place (first + f m) ≡ b

@@ -1,5 +1,8 @@
-ghost use Rattle.std.specs.Prelude.{◌≡◌, ◌<◌, ◌≤◌, ◌^◌, IfOk, length};
-ghost use Rattle.porch_layout.specs.Layouts.{IsLayout};
+//! The sizes and places of a list of types.
+
+ghost use Rattle.std.specs.Prelude.{◌≡◌, ◌<◌, ◌≤◌, ◌*◌, ◌%◌, ◌^◌, IfOk, length};
+ghost use Rattle.porch_types.specs.Leaves.{IsTypes, leaves_of};
+ghost use Rattle.porch_layout.specs.Layouts.{IsAlignment, IsLayout};
 ghost use Rattle.porch_metrics.specs.Extents.{extent_of, ucf_layout};
 ghost use Rattle.porch_metrics.specs.Places.{place_of};
 
@@ -19,7 +22,8 @@ pub struct Metrics {
 }
 
 impl Model for Metrics {
-    ghost use Rattle.porch_metrics.specs.Tables.{Measures, AreTables};
+    ghost use Rattle.porch_metrics.specs.Places.{Measures};
+    ghost use Rattle.porch_metrics.specs.inside.Tables.{AreTables};
 
     ghost Value = { Measures };
 
@@ -32,7 +36,7 @@ impl Metrics {
     /// Measures each type. It keeps a copy of the types.
     pub fn new(alloc: Global, types: &Types, layout: &Layout) -> Result<Metrics, AllocError>
         requires { IsLayout layout.now }
-        ensures { IfOk result (λ metrics. metrics ≡ record { types = types.now; layout = layout.now }) }
+        ensures { IfOk result (λ m. m ≡ record { types = types.now; layout = layout.now }) }
     {
         let types = types.copy(alloc)?;
         let native = measure(alloc, &types, layout)?;
@@ -44,10 +48,22 @@ impl Metrics {
         })
     }
 
+    /// The layout under which the types were measured.
+    pub fn layout(&self) -> Layout
+        ensures value { result ≡ self.now.layout }
+        ensures allowed { IsLayout self.now.layout }
+        ensures types { IsTypes self.now.types }
+    {
+        self.native.layout
+    }
+
     /// The size of a type.
     pub fn size(&self, ty: u32) -> u64
         requires { ty < length self.now.types }
-        ensures { result ≡ (extent_of self.now.layout self.now.types ty).size }
+        ensures value { result ≡ (extent_of self.now.layout self.now.types ty).size }
+        ensures some { 0 < result }
+        ensures most { result ≤ 8 * leaves_of self.now.types ty }
+        ensures whole { result % (extent_of self.now.layout self.now.types ty).align ≡ 0 }
     {
         size_at(&self.types, &self.native, ty)
     }
@@ -55,7 +71,8 @@ impl Metrics {
     /// The alignment of a type: 1, 2, 4 or 8.
     pub fn align(&self, ty: u32) -> u64
         requires { ty < length self.now.types }
-        ensures { result ≡ (extent_of self.now.layout self.now.types ty).align }
+        ensures alignment { IsAlignment result }
+        ensures value { result ≡ (extent_of self.now.layout self.now.types ty).align }
     {
         align_at(&self.types, &self.native, ty)
     }
@@ -64,7 +81,8 @@ impl Metrics {
     pub fn place(&self, ty: u32, leaf: u64) -> u64
         requires known { ty < length self.now.types }
         requires near { leaf ≤ 2 ^ 52 }
-        ensures { result ≡ place_of self.now.layout self.now.types ty leaf }
+        ensures value { result ≡ place_of self.now.layout self.now.types ty leaf }
+        ensures most { result ≤ 8 * leaf }
     {
         place_in(&self.types, &self.native, ty, leaf)
     }
@@ -72,7 +90,9 @@ impl Metrics {
     /// The size of a type in a UCF file.
     pub fn ucf_size(&self, ty: u32) -> u64
         requires { ty < length self.now.types }
-        ensures { result ≡ (extent_of ucf_layout self.now.types ty).size }
+        ensures value { result ≡ (extent_of ucf_layout self.now.types ty).size }
+        ensures some { 0 < result }
+        ensures most { result ≤ 8 * leaves_of self.now.types ty }
     {
         size_at(&self.types, &self.packed, ty)
     }
@@ -81,7 +101,8 @@ impl Metrics {
     pub fn ucf_place(&self, ty: u32, leaf: u64) -> u64
         requires known { ty < length self.now.types }
         requires near { leaf ≤ 2 ^ 52 }
-        ensures { result ≡ place_of ucf_layout self.now.types ty leaf }
+        ensures value { result ≡ place_of ucf_layout self.now.types ty leaf }
+        ensures most { result ≤ 8 * leaf }
     {
         place_in(&self.types, &self.packed, ty, leaf)
     }

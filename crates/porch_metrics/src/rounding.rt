@@ -1,3 +1,5 @@
+//! Rounding up to an alignment.
+
 ghost use Rattle.std.specs.Prelude.{◌≡◌, ◌<◌, ◌≤◌, ◌+◌, ◌^◌};
 ghost use Rattle.porch_metrics.specs.Extents.{round_up};
 

@@ -1,8 +1,16 @@
-ghost use Rattle.std.specs.Prelude.{◌≡◌, ◌<◌, ◌≤◌, ◌+◌, ◌*◌, ◌^◌, ℕ, All, length, slice_get, slice_index, Some, IfOk, max, map};
+//! The measures of each type of a list, kept in a table.
+
+ghost use Rattle.std.specs.Prelude.{◌≡◌, ◌<◌, ◌≤◌, ◌+◌, ◌*◌, ◌^◌, ℕ, All, length, IfOk, max};
 ghost use Rattle.porch_layout.specs.Layouts.{IsLayout};
-ghost use Rattle.porch_types.specs.Leaves.{parts_of, width_of};
-ghost use Rattle.porch_metrics.specs.Extents.{round_up, extent_in, extents_of, type_extent, greatest_align, member_places, members_end, kind_extent};
-ghost use Rattle.porch_metrics.specs.Tables.{extent, places_of, AreMeasured, IsSmall, IsTable};
+ghost use Rattle.porch_types.specs.Leaves.{parts_of};
+ghost use Rattle.porch_metrics.specs.Extents.{kind_extent};
+ghost use Rattle.porch_metrics.specs.inside.Tables.{
+  extents_in,
+  AreSmall,
+  IsStructMeasured,
+  IsTypeMeasured,
+  IsTable,
+};
 
 use crate::rounding::rounded_up;
 use porch_layout::Layout;
@@ -22,6 +30,104 @@ pub(crate) struct Measured {
 pub(crate) struct Table {
     pub(crate) layout: Layout,
     pub(crate) measured: Vec<Measured>,
+}
+
+/// Measures each type, the parts of a type before it.
+pub(crate) fn measure(alloc: Global, types: &Types, layout: &Layout) -> Result<Table, AllocError>
+    requires { IsLayout layout.now }
+    ensures table { IfOk result (λ table. IsTable types.now table) }
+    ensures layout { IfOk result (λ table. table.layout ≡ layout.now) }
+{
+    let len = types.len();
+    leaves_add_up();
+    let mut measured = Vec::with_capacity(alloc, len)?;
+    for number in 0..len {
+        let ty = types.get(number as u32);
+        let next = measure_type(alloc, layout, ty, &measured)?;
+        measured.push(next)?;
+    }
+    Ok(Table {
+        layout: *layout,
+        measured,
+    })
+}
+
+pub(crate) fn size_in(measured: &[Measured], ty: u32) -> u64
+    requires { ty < length measured.now }
+    ensures { result ≡ (extents_in measured.now ty).size }
+{
+    measured[ty as usize].size
+}
+
+pub(crate) fn align_in(measured: &[Measured], ty: u32) -> u64
+    requires { ty < length measured.now }
+    ensures { result ≡ (extents_in measured.now ty).align }
+{
+    measured[ty as usize].align
+}
+
+/// Measures a type whose parts were measured.
+fn measure_type(
+    alloc: Global,
+    layout: &Layout,
+    ty: &Ty,
+    measured: &[Measured],
+) -> Result<Measured, AllocError>
+    requires layout { IsLayout layout.now }
+    requires known { All (λ part. part < length measured.now) (parts_of ty.now) }
+    requires few { length (parts_of ty.now) ≤ 1_048_576 }
+    requires small { AreSmall measured.now }
+    ensures { IfOk result (IsTypeMeasured layout.now (extents_in measured.now) ty.now) }
+{
+    match ty {
+        Ty::Whole { kind } => Ok(Measured {
+            size: kind_size(layout, *kind),
+            align: kind_align(layout, *kind),
+            places: Vec::new(alloc),
+        }),
+        Ty::Pointer { to: _ } => Ok(Measured {
+            size: u64::from(layout.pointer),
+            align: u64::from(layout.align_pointer),
+            places: Vec::new(alloc),
+        }),
+        Ty::Array { of, count } => Ok(Measured {
+            size: u64::from(*count) * size_in(measured, *of),
+            align: align_in(measured, *of),
+            places: Vec::new(alloc),
+        }),
+        Ty::Struct { members } => { measure_struct(alloc, layout, members.as_slice(), measured) }
+    }
+}
+
+/// Puts each member at the lowest multiple of its alignment behind the one before.
+fn measure_struct(
+    alloc: Global,
+    layout: &Layout,
+    members: &[u32],
+    measured: &[Measured],
+) -> Result<Measured, AllocError>
+    requires layout { IsLayout layout.now }
+    requires known { All (λ part. part < length measured.now) members.now }
+    requires few { length members.now ≤ 1_048_576 }
+    requires small { AreSmall measured.now }
+    ensures { IfOk result (IsStructMeasured layout.now (extents_in measured.now) members.now) }
+{
+    let mut places = Vec::with_capacity(alloc, members.len())?;
+    let mut end = 0u64;
+    let mut align = u64::from(layout.least_struct);
+    for member in members {
+        let own = align_in(measured, *member);
+        let place = rounded_up(end, own);
+        places.push(place)?;
+        end = place + size_in(measured, *member);
+        align = align.max(own);
+    }
+    let size = rounded_up(end, align);
+    Ok(Measured {
+        size,
+        align,
+        places,
+    })
 }
 
 fn kind_size(layout: &Layout, kind: Kind) -> u64
@@ -52,105 +158,4 @@ fn kind_align(layout: &Layout, kind: Kind) -> u64
         Kind::Long => u64::from(layout.align_long),
         Kind::ULong => u64::from(layout.align_long),
     }
-}
-
-pub(crate) fn size_in(measured: &[Measured], ty: u32) -> u64
-    requires { ty < length measured.now }
-    ensures { result ≡ (extent_in (map extent measured.now) ty).size }
-{
-    measured[ty as usize].size
-}
-
-pub(crate) fn align_in(measured: &[Measured], ty: u32) -> u64
-    requires { ty < length measured.now }
-    ensures { result ≡ (extent_in (map extent measured.now) ty).align }
-{
-    measured[ty as usize].align
-}
-
-/// Puts each member at the lowest multiple of its alignment behind the one before.
-fn measure_struct(
-    alloc: Global,
-    layout: &Layout,
-    members: &[u32],
-    measured: &[Measured],
-) -> Result<Measured, AllocError>
-    requires layout { IsLayout layout.now }
-    requires known { All (λ part. part < length measured.now) members.now }
-    requires few { length members.now ≤ 1_048_576 }
-    requires small { (ty : ℕ) → ty < length measured.now → IsSmall (extent_in (map extent measured.now) ty) }
-    ensures size { IfOk result (λ m. m.size ≡ round_up (members_end (extent_in (map extent measured.now)) 0 members.now) (greatest_align (extent_in (map extent measured.now)) layout.now.least_struct members.now)) }
-    ensures align { IfOk result (λ m. m.align ≡ greatest_align (extent_in (map extent measured.now)) layout.now.least_struct members.now) }
-    ensures places { IfOk result (λ m. m.places.items ≡ member_places (extent_in (map extent measured.now)) 0 members.now) }
-{
-    let mut places = Vec::with_capacity(alloc, members.len())?;
-    let mut end = 0u64;
-    let mut align = u64::from(layout.least_struct);
-    for member in members {
-        let own = align_in(measured, *member);
-        let place = rounded_up(end, own);
-        places.push(place)?;
-        end = place + size_in(measured, *member);
-        align = align.max(own);
-    }
-    let size = rounded_up(end, align);
-    Ok(Measured {
-        size,
-        align,
-        places,
-    })
-}
-
-/// Measures a type whose parts were measured.
-fn measure_type(
-    alloc: Global,
-    layout: &Layout,
-    ty: &Ty,
-    measured: &[Measured],
-) -> Result<Measured, AllocError>
-    requires layout { IsLayout layout.now }
-    requires known { All (λ part. part < length measured.now) (parts_of ty.now) }
-    requires few { length (parts_of ty.now) ≤ 1_048_576 }
-    requires small { (part : ℕ) → part < length measured.now → IsSmall (extent_in (map extent measured.now) part) }
-    ensures extent { IfOk result (λ m. extent m ≡ type_extent layout.now (extent_in (map extent measured.now)) ty.now) }
-    ensures places { IfOk result (λ m. m.places.items ≡ places_of (extent_in (map extent measured.now)) ty.now) }
-{
-    match ty {
-        Ty::Whole { kind } => Ok(Measured {
-            size: kind_size(layout, *kind),
-            align: kind_align(layout, *kind),
-            places: Vec::new(alloc),
-        }),
-        Ty::Pointer { to: _ } => Ok(Measured {
-            size: u64::from(layout.pointer),
-            align: u64::from(layout.align_pointer),
-            places: Vec::new(alloc),
-        }),
-        Ty::Array { of, count } => Ok(Measured {
-            size: u64::from(*count) * size_in(measured, *of),
-            align: align_in(measured, *of),
-            places: Vec::new(alloc),
-        }),
-        Ty::Struct { members } => { measure_struct(alloc, layout, members.as_slice(), measured) }
-    }
-}
-
-/// Measures each type, the parts of a type before it.
-pub(crate) fn measure(alloc: Global, types: &Types, layout: &Layout) -> Result<Table, AllocError>
-    requires { IsLayout layout.now }
-    ensures table { IfOk result (λ table. IsTable types.now table) }
-    ensures layout { IfOk result (λ table. table.layout ≡ layout.now) }
-{
-    let len = types.len();
-    leaves_add_up();
-    let mut measured = Vec::with_capacity(alloc, len)?;
-    for number in 0..len {
-        let ty = types.get(number as u32);
-        let next = measure_type(alloc, layout, ty, &measured)?;
-        measured.push(next)?;
-    }
-    Ok(Table {
-        layout: *layout,
-        measured,
-    })
 }

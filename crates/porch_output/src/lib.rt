@@ -7,8 +7,6 @@
 mod buffer;
 mod output;
 mod shown;
-#[cfg(test)]
-mod tests;
 
 pub use output::Output;
 pub use shown::Shown;

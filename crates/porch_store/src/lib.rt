@@ -8,8 +8,6 @@
 mod load;
 mod number;
 mod store;
-#[cfg(test)]
-mod tests;
 
 pub use load::{LoadFault, load_file};
 pub use store::{Ack, Newest, Store};

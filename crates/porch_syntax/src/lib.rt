@@ -14,8 +14,6 @@ pub mod parser;
 mod program;
 pub mod refusal;
 mod statement;
-#[cfg(test)]
-mod tests;
 pub mod token;
 pub mod tree;
 

@@ -6,3 +6,7 @@ pub mod Shifted
 pub mod Putting
 pub mod Subobjects
 pub mod Copying
+pub mod LeafTypes
+pub mod KindTypes
+pub mod Longer
+pub mod Nested

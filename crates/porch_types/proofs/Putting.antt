@@ -113,7 +113,7 @@ kinds_put types new ty k is =
     let long : 8 ≤ length types = long_enough types k in
     ap (take 8) is ∙ take-append-le 8 types (ty ∷ []) long ∙ k
 
-all_more : (number p : ℕ) (ps : List ℕ) → p < number → All (λ q. q < number) ps → All (λ q. q < number) (p ∷ ps)
+pub all_more : (number p : ℕ) (ps : List ℕ) → p < number → All (λ q. q < number) ps → All (λ q. q < number) (p ∷ ps)
 all_more number p ps h a zero d lt = h
 all_more number p ps h a (suc k) d lt = a k d (omega (arith, lt))
 

@@ -14,7 +14,7 @@ use Rattle.porch_types.proofs.Counts.{leaves_is, leaves_some}
 use Rattle.porch_types.proofs.Depth.{depth_of, begins, ends, goes_on}
 
 -- this part is an element of a row of the root, where the leaves before the whole are `base`
-record Stands (types : List Ty) (root count base : ℕ) (part : Part) : Type 0 where
+pub record Stands (types : List Ty) (root count base : ℕ) (part : Part) : Type 0 where
   pub row : IsRow types root count part.ty (base + part.row.first) part.row.len
   pub k : ℕ
   pub within : k < part.row.len
@@ -85,7 +85,7 @@ inner_struct types root count base ty first len k place members part row lt is a
       m.below,
     )
 
-inner : (types : List Ty) (root count base ty first len k place : ℕ) (o : Option Ty) (part : Part) → IsRow types root count ty first len → k < len → base ≡ first + k * leaves_of types ty
+pub inner : (types : List Ty) (root count base ty first len k place : ℕ) (o : Option Ty) (part : Part) → IsRow types root count ty first len → k < len → base ≡ first + k * leaves_of types ty
     → slice_get types ty ≡ o → part_of types o place ≡ Some part → Stands types root count base part × (part.first ≤ place)
 inner types root count base ty first len k place None part row lt is at h = cc
 inner types root count base ty first len k place (Some (Whole kind)) part row lt is at h = cc
@@ -195,7 +195,7 @@ record Arrives (types : List Ty) (root count ty first len : ℕ) : Type 0 where
       ≡ option_map (moved_row before) (row_within (suc ty) types (Some (record { ty = ty; index = index; first = rest + k * leaves_of types ty; row = record { first = rest; len = len } })) place u))
 
 -- the element that holds a leaf
-element_is : (of l n k place : ℕ) → k < n → k * l ≤ place → place < k * l + l
+pub element_is : (of l n k place : ℕ) → k < n → k * l ≤ place → place < k * l + l
     → element_at of l n place ≡ Some (record { ty = of; index = k; first = k * l; row = record { first = 0; len = n } })
 element_is of l n k place lt low high =
     let m : (k + 1) * l ≡ k * l + l = grind arith in
@@ -204,7 +204,7 @@ element_is of l n k place lt low high =
     rw (d, t) refl
 
 -- the member that holds a leaf
-member_is : (f : ℕ → ℕ) (ms : List ℕ) (i m index first place : ℕ) → slice_get ms i ≡ Some m → first + leaves_together f (take i ms) ≤ place → place < first + leaves_together f (take i ms) + f m
+pub member_is : (f : ℕ → ℕ) (ms : List ℕ) (i m index first place : ℕ) → slice_get ms i ≡ Some m → first + leaves_together f (take i ms) ≤ place → place < first + leaves_together f (take i ms) + f m
     → (j : ℕ) × (member_at f ms index first place ≡ Some (record { ty = m; index = j; first = first + leaves_together f (take i ms); row = record { first = first + leaves_together f (take i ms); len = 1 } }))
 member_is f [] i m index first place at low high = cc
 member_is f (o ∷ ms) zero m index first place at low high =
@@ -234,13 +234,13 @@ step_down types ty index first before p u row next formed lt at =
     subst (λ x. option_map (moved_row before) (row_within (suc ty) types (Some part) (first + p) u) ≡ option_map (moved_row (before + first)) (row_within (depth_of next) types next x u)) d
     (goes_on types part next before (first + p) u formed test at_p)
 
-times_le : (k n l : ℕ) → k < n → k * l + l ≤ n * l
+pub times_le : (k n l : ℕ) → k < n → k * l + l ≤ n * l
 times_le k n l lt =
     let h : (k + 1) * l ≤ n * l = mul-le-mul_right l (omega (arith, lt)) in
     let m : (k + 1) * l ≡ k * l + l = grind arith in
     omega (arith, h, m)
 
-together_le : (f : ℕ → ℕ) (ms : List ℕ) (i m : ℕ) → slice_get ms i ≡ Some m → leaves_together f (take i ms) + f m ≤ leaves_together f ms
+pub together_le : (f : ℕ → ℕ) (ms : List ℕ) (i m : ℕ) → slice_get ms i ≡ Some m → leaves_together f (take i ms) + f m ≤ leaves_together f ms
 together_le f [] i m at = cc
 together_le f (o ∷ ms) zero m at = let e : f o ≡ f m = cc in omega (arith, e)
 together_le f (o ∷ ms) (suc i) m at = omega (arith, together_le f ms i m at)
@@ -340,7 +340,7 @@ row_complete types root count place u row formed known h =
     (subst (λ x. row_at types root count x u ≡ Some (record { first = a.before + a.rest; len = row.len })) p found)
 
 -- the types of a root's rows are known where the root's is
-row_known : (types : List Ty) (root count ty first len : ℕ) → AreFormed types → root < length types → IsRow types root count ty first len → ty < length types
+pub row_known : (types : List Ty) (root count ty first len : ℕ) → AreFormed types → root < length types → IsRow types root count ty first len → ty < length types
 row_known types root count ty first len formed known elements_of_root = known
 row_known types root count ty first len formed known (elements_of_array {ty = t} {of = of} {n = m} row lt at) =
     omega (arith, (formed.each t (Array of m) at).earlier 0 0 (omega arith), slice_get_within types t (Array of m) at)
@@ -379,3 +379,13 @@ pub found_iff : (types : List Ty) (root count place u : ℕ) (b : Bool) → AreF
 found_iff types root count place u b formed known is =
     subst (λ x. (IsTrue x → IsSubobject types root count place u) × (IsSubobject types root count place u → IsTrue x)) (sym is)
     (is_found types root count place u (row_at types root count place u) formed known refl)
+
+pub none_sound : (types : List Ty) (root count place u : ℕ) → AreFormed types → root < length types → row_at types root count place u ≡ None → ¬ IsSubobject types root count place u
+none_sound types root count place u formed known is = λ s.
+    let p : row_at types root count place u ≡ Some s.0 = row_exact types root count place u s.0 formed known s.1 in
+    cc
+
+pub none_complete : (types : List Ty) (root count place u : ℕ) → ¬ IsSubobject types root count place u → row_at types root count place u ≡ None
+none_complete types root count place u none =
+    elim (row_at types root count place u) as (λ o. row_at types root count place u ≡ o → row_at types root count place u ≡ None)
+    [ None ↦ λ e. e | Some row ↦ λ e. absurd (none (row, row_found types root count place u row e)) ] refl

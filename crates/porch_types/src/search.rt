@@ -1,5 +1,6 @@
 ghost use Rattle.std.specs.Prelude.{◌≡◌, ◌<◌, length};
 ghost use Rattle.porch_types.specs.Rows.{row_at, has_shared_end};
+ghost use Rattle.porch_types.specs.LeafTypes.{leaf_type};
 ghost use Rattle.porch_types.specs.Kept.{IsKept, types_of};
 
 use crate::entries::{Entry, leaves_at, part_in};
@@ -32,6 +33,22 @@ pub(crate) fn row_in(
         found = part_in(entries, part.ty, inner);
     }
     None
+}
+
+/// Goes down the parts that hold the leaf, to the one that has no parts.
+pub(crate) fn leaf_type_in(entries: &[Entry], ty: u32, leaf: u64) -> u32
+    requires kept { IsKept entries.now }
+    requires known { ty < length entries.now }
+    ensures value { result ≡ leaf_type (types_of entries.now) ty leaf }
+    ensures known { result < length entries.now }
+{
+    let mut whole = ty;
+    let mut inner = leaf % leaves_at(entries, ty);
+    'down: while let Some(part) = part_in(entries, whole, inner) {
+        whole = part.ty;
+        inner -= part.first;
+    }
+    whole
 }
 
 /// Leaves the elements before the one at `place` away, so that no sum passes 2^64.

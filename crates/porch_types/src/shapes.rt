@@ -1,4 +1,5 @@
-ghost use Rattle.std.specs.Prelude.{◌≡◌, IfOk};
+ghost use Rattle.std.specs.Prelude.{◌≡◌, ◌<◌, IfOk};
+ghost use Rattle.porch_types.specs.Kinds.{kind_number};
 
 use std::alloc::{AllocError, Global};
 use std::marker::Model;
@@ -14,6 +15,28 @@ pub enum Kind {
     UInt,
     Long,
     ULong,
+}
+
+/// The number of `int` in each list of types.
+pub const INT: u32 = 4;
+
+impl Kind {
+    /// The number of the kind in each list of types.
+    pub fn number(self) -> u32
+        ensures value { result ≡ kind_number self }
+        ensures few { result < 8 }
+    {
+        match self {
+            Kind::Char => 0,
+            Kind::UChar => 1,
+            Kind::Short => 2,
+            Kind::UShort => 3,
+            Kind::Int => INT,
+            Kind::UInt => 5,
+            Kind::Long => 6,
+            Kind::ULong => 7,
+        }
+    }
 }
 
 /// The numbers of a struct's member types, in order. Contracts see the list.

@@ -1,6 +1,7 @@
 ghost use Rattle.std.specs.Prelude.{◌≡◌, ◌<◌, ◌≤◌, ◌^◌, ◌+◌, ◌++◌, ◌∷◌, [], ◌↔◌, ℕ, List, length, slice_get, Some, None, IsTrue, IfOk, IfErr, IfSome, IfNone, OnOk, OnErr};
 ghost use Rattle.porch_types.specs.Leaves.{leaves_of, kind_types, IsTypes};
 ghost use Rattle.porch_types.specs.Rows.{IsRowAt, IsSubobject, IsSharedEnd, part_at, row_at, has_shared_end};
+ghost use Rattle.porch_types.specs.LeafTypes.{IsScalar, leaf_type};
 ghost use Rattle.porch_types.specs.Adding.{IsRefusal, add_fault};
 ghost use Rattle.porch_types.specs.Kept.{IsKept, types_of};
 ghost use Rattle.porch_types.specs.declared.types.TypeFault.TheVariants.{NoMemory};
@@ -8,7 +9,7 @@ ghost use Rattle.porch_types.specs.declared.types.TypeFault.TheVariants.{NoMemor
 use crate::checks::{checked_leaves, put, type_starts};
 use crate::entries::{Entry, copy_entries, leaves_at, part_in};
 use crate::parts::{Part, Row};
-use crate::search::{row_in, shares_end};
+use crate::search::{leaf_type_in, row_in, shares_end};
 use crate::shapes::{Kind, Ty};
 use std::alloc::{AllocError, Global};
 use std::marker::Model;
@@ -133,6 +134,16 @@ impl Types {
         ensures begun { IfSome result (λ part. part.first ≤ leaf) }
     {
         part_in(&self.entries, ty, leaf)
+    }
+
+    /// The type of a leaf, an integer or a pointer. Leaves count on over elements of the type in a row.
+    pub fn leaf_type(&self, ty: u32, leaf: u64) -> u32
+        requires { ty < length self.now }
+        ensures value { result ≡ leaf_type self.now ty leaf }
+        ensures known { result < length self.now }
+        ensures scalar { IsScalar (slice_get self.now result) }
+    {
+        leaf_type_in(&self.entries, ty, leaf)
     }
 
     /// The row of the subobject of type `pointee` that begins at leaf `place` of a root. A root is

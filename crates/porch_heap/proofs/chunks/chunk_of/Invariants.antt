@@ -1,6 +1,6 @@
 use Rattle.std.proofs.Common.{◌-◌, ◌+◌, ◌≤◌, length, take, drop}
 use Rattle.porch_heap.specs.Blocks.{Each}
-use Rattle.porch_heap.specs.Searching.{EndsBefore}
+use Rattle.porch_heap.specs.inside.Searching.{EndsBefore}
 use Rattle.porch_heap.specs.Chunks.{blocks_of}
 use Rattle.porch_heap.proofs.chunks.chunk_of.Given as goal
 

@@ -1,6 +1,7 @@
 use Rattle.std.proofs.Common.{◌+◌, take, ap, sym, add-one, ◌∙◌, arith}
 use Rattle.std.proofs.lemmas.List.{set-get_or, append-nil, take_all}
-use Rattle.porch_heap.specs.Chunks.{blocks_of, blocks_at}
+use Rattle.porch_heap.specs.Chunks.{blocks_of}
+use Rattle.porch_heap.specs.inside.ChunkRow.{blocks_at}
 use Rattle.porch_heap.proofs.After.{no_room_left, no_room_right}
 use Rattle.porch_heap.proofs.Linked.{linked_blocks, linked_from}
 use Rattle.porch_heap.proofs.Ranks.{found_chunk, no_room_chunk}

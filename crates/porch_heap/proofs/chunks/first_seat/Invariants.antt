@@ -1,5 +1,6 @@
 use Rattle.std.proofs.Common.{◌≡◌, ◌≤◌, ◌++◌, length, take}
-use Rattle.porch_heap.specs.Chunks.{NoRoom, blocks_of, blocks_at}
+use Rattle.porch_heap.specs.Chunks.{blocks_of}
+use Rattle.porch_heap.specs.inside.ChunkRow.{NoRoom, blocks_at}
 use Rattle.porch_heap.proofs.chunks.first_seat.Given as goal
 
 abbrev pub invariant-loop-chunk : goal.invariant-loop-chunk

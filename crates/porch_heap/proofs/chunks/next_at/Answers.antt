@@ -1,6 +1,6 @@
 use Rattle.std.proofs.Common.{◌≡◌, ◌≤◌, ◌<◌, ◌+◌, suc, length, sym, ◌∙◌, arith}
 use Rattle.porch_heap.specs.declared.block.Block.{Block}
-use Rattle.porch_heap.specs.Chunks.{blocks_at}
+use Rattle.porch_heap.specs.inside.ChunkRow.{blocks_at}
 use Rattle.porch_heap.proofs.Chunked.{chunk_within}
 use Rattle.porch_heap.proofs.Linked.{linked_blocks}
 use Rattle.porch_heap.proofs.Ranks.{next_within, next_chunk, next_end, some_blocks}

@@ -1,7 +1,8 @@
 use Rattle.std.proofs.Common.{take, arith}
 use Rattle.porch_heap.specs.Blocks.{Each}
-use Rattle.porch_heap.specs.Searching.{EndsBefore}
-use Rattle.porch_heap.specs.Chunks.{blocks_at, blocks_of}
+use Rattle.porch_heap.specs.inside.Searching.{EndsBefore}
+use Rattle.porch_heap.specs.Chunks.{blocks_of}
+use Rattle.porch_heap.specs.inside.ChunkRow.{blocks_at}
 use Rattle.porch_heap.proofs.Lists.{each_append}
 use Rattle.porch_heap.proofs.Linked.{linked_blocks}
 use Rattle.porch_heap.proofs.chunks.seat_behind.Goals as goal

@@ -1,6 +1,6 @@
 use Rattle.std.proofs.Common.{◌≡◌, ◌≢◌, ◌+◌, ◌≤◌, take, arith, add-one, ◌∙◌}
 use Rattle.porch_heap.specs.declared.block.Block.{Block}
-use Rattle.porch_heap.specs.Searching.{EndsBefore}
+use Rattle.porch_heap.specs.inside.Searching.{EndsBefore}
 use Rattle.porch_heap.specs.Chunks.{blocks_of}
 use Rattle.porch_heap.proofs.Lists.{each_map}
 use Rattle.porch_heap.proofs.Linked.{linked_blocks, each_chunks}

@@ -1,5 +1,6 @@
 use Rattle.std.proofs.Common.{◌≡◌, take}
-use Rattle.porch_heap.specs.Chunks.{widest, blocks_of}
+use Rattle.porch_heap.specs.Chunks.{blocks_of}
+use Rattle.porch_heap.specs.inside.ChunkRow.{widest}
 use Rattle.porch_heap.proofs.chunks.widest_of.Given as goal
 
 abbrev pub invariant-loop-chunk : goal.invariant-loop-chunk

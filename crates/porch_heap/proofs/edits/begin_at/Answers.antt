@@ -1,5 +1,5 @@
 use Rattle.std.proofs.Common.{◌≤◌, ◌∙◌, sym, subst, arith}
-use Rattle.porch_heap.specs.Searching.{Head}
+use Rattle.porch_heap.specs.inside.Searching.{Head}
 use Rattle.porch_heap.proofs.Chunked.{read_blocks}
 use Rattle.porch_heap.proofs.Linking.{begun_set, begun_same, begun_past}
 use Rattle.porch_heap.proofs.edits.begin_at.Goals as goal

@@ -1,5 +1,6 @@
 use Rattle.std.proofs.Common.{◌≤◌, ◌+◌, List, length, subst, ap, arith}
-use Rattle.porch_heap.specs.Chunks.{ChunkState, blocks_at}
+use Rattle.porch_heap.specs.Chunks.{ChunkState}
+use Rattle.porch_heap.specs.inside.ChunkRow.{blocks_at}
 use Rattle.porch_heap.proofs.Joining.{IsPair, pair_next, pair_fits, pair_blocks, pair_linked}
 use Rattle.porch_heap.proofs.edits.join.Goals as goal
 

@@ -1,5 +1,6 @@
 use Rattle.std.proofs.Common.{◌<◌, ◌∙◌, List, length, subst, sym, ap, arith}
-use Rattle.porch_heap.specs.Chunks.{ChunkState, blocks_at}
+use Rattle.porch_heap.specs.Chunks.{ChunkState}
+use Rattle.porch_heap.specs.inside.ChunkRow.{blocks_at}
 use Rattle.porch_heap.proofs.Chunked.{chunk_within, read_blocks}
 use Rattle.porch_heap.proofs.edits.put_before.Goals as goal
 

@@ -2,7 +2,8 @@ use Rattle.std.proofs.Common.{◌≡◌, ℕ, ◌-◌, subst, ◌<◌, ◌∷◌
 use Rattle.std.specs.Prelude.{is_ok}
 use Rattle.std.proofs.lemmas.Bool.Decides.{nat_tests}
 use Rattle.porch_heap.specs.declared.block.Block.{Block}
-use Rattle.porch_heap.specs.Chunks.{ChunkState, Linked, after, blocks_of}
+use Rattle.porch_heap.specs.Chunks.{ChunkState, blocks_of}
+use Rattle.porch_heap.specs.inside.ChunkRow.{Linked, after}
 use Rattle.porch_heap.proofs.After.{after_ends}
 use Rattle.porch_heap.proofs.BehindAll.{IsLast, read_twice, alone_linked, more_blocks, last_low, last_place, last_blocks, last_linked}
 use Rattle.porch_heap.proofs.edits.put_last.Goals as goal

@@ -1,6 +1,7 @@
 use Rattle.std.proofs.Common.{◌≡◌, ◌<◌, ◌∙◌, ◌++◌, List, length, take, drop, subst, sym, ap, arith}
 use Rattle.std.proofs.lemmas.List.{with_items_is}
-use Rattle.porch_heap.specs.Chunks.{ChunkState, Linked, begun, blocks_of, blocks_at}
+use Rattle.porch_heap.specs.Chunks.{ChunkState, blocks_of}
+use Rattle.porch_heap.specs.inside.ChunkRow.{Linked, begun, blocks_at}
 use Rattle.porch_heap.proofs.Chunked.{chunk_within, read_blocks}
 use Rattle.porch_heap.proofs.ChunkGone.{IsGone, gone_low, gone_small, gone_linked, gone_blocks}
 use Rattle.porch_heap.proofs.edits.take_out.Goals as goal

@@ -1,6 +1,6 @@
 use Rattle.std.proofs.Common.{inl, arith}
 use Rattle.porch_heap.specs.declared.hint.Hint.{Hint}
-use Rattle.porch_heap.specs.Searching.{state}
+use Rattle.porch_heap.specs.inside.Searching.{state}
 use Rattle.porch_heap.specs.Chunks.{blocks_of}
 use Rattle.porch_heap.proofs.HeapKept.{start_keeps, hinted_keeps, none_for, none_before}
 use Rattle.porch_heap.proofs.heap.place.Goals as goal

@@ -1,6 +1,6 @@
 use Rattle.std.proofs.Common.{◌<◌, length, arith, add-one}
 use Rattle.porch_heap.specs.declared.hint.Hint.{Hint}
-use Rattle.porch_heap.specs.Hints.{lowered}
+use Rattle.porch_heap.specs.inside.Hints.{lowered}
 use Rattle.porch_heap.proofs.Hints.{lower_done, lower_rest}
 use Rattle.porch_heap.proofs.hint.lower.Goals as goal
 

@@ -1,5 +1,5 @@
 use Rattle.std.proofs.Common.{◌≡◌, take, drop, map}
-use Rattle.porch_heap.specs.Hints.{lowered}
+use Rattle.porch_heap.specs.inside.Hints.{lowered}
 use Rattle.porch_heap.proofs.hint.lower.Given as goal
 
 abbrev pub invariant-loop-hint : goal.invariant-loop-hint

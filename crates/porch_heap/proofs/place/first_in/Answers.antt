@@ -1,7 +1,7 @@
 use Rattle.std.proofs.Common.{◌≡◌, ◌<◌, ◌+◌, ◌^◌, suc, get_or, take, sym, add-one, arith, max, ◌-◌}
 use Rattle.std.proofs.lemmas.Bool.Decides.{nat_tests}
 use Rattle.porch_heap.specs.declared.block.Block.{Block}
-use Rattle.porch_heap.specs.Chunks.{HasNoRoom, after}
+use Rattle.porch_heap.specs.inside.ChunkRow.{HasNoRoom, after}
 use Rattle.porch_heap.proofs.Lists.{each_at, stand_high}
 use Rattle.porch_heap.proofs.After.{after_at, no_room_at, no_room_known, no_room_more}
 use Rattle.porch_heap.proofs.place.first_in.Goals as goal

@@ -1,5 +1,5 @@
 use Rattle.std.proofs.Common.{◌≡◌, ◌≤◌, ◌^◌, take}
-use Rattle.porch_heap.specs.Chunks.{NoRoom, after}
+use Rattle.porch_heap.specs.inside.ChunkRow.{NoRoom, after}
 use Rattle.porch_heap.proofs.place.first_in.Given as goal
 
 abbrev pub invariant-loop-index : goal.invariant-loop-index

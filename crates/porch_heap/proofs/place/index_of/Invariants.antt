@@ -1,6 +1,6 @@
 use Rattle.std.proofs.Common.{◌-◌, ◌+◌, ◌≤◌, length, take, drop}
 use Rattle.porch_heap.specs.Blocks.{Each}
-use Rattle.porch_heap.specs.Searching.{EndsBefore, Head}
+use Rattle.porch_heap.specs.inside.Searching.{EndsBefore, Head}
 use Rattle.porch_heap.proofs.place.index_of.Given as goal
 
 abbrev pub invariant-loop-low : goal.invariant-loop-low

@@ -1,6 +1,6 @@
 use Rattle.std.proofs.Common.{◌≢◌, ◌^◌, take, arith}
 use Rattle.porch_heap.specs.declared.block.Block.{Block}
-use Rattle.porch_heap.specs.Searching.{EndsBefore}
+use Rattle.porch_heap.specs.inside.Searching.{EndsBefore}
 use Rattle.porch_heap.proofs.Lists.{head_at, each_map, each_parts}
 use Rattle.porch_heap.proofs.Changes.{none_begin}
 use Rattle.porch_heap.proofs.place.number_of.Goals as goal

@@ -1,5 +1,5 @@
 use Rattle.std.proofs.Common.{◌≡◌, take}
-use Rattle.porch_heap.specs.Chunks.{after, widest}
+use Rattle.porch_heap.specs.inside.ChunkRow.{after, widest}
 use Rattle.porch_heap.proofs.place.widest_gap.Given as goal
 
 abbrev pub invariant-loop-block : goal.invariant-loop-block

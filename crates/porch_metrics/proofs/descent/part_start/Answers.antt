@@ -10,7 +10,7 @@ pub overflow_mul-result : goal.overflow_mul-result
 overflow_mul-result c =
     let f = c.requires.found in
     let h = array_near c.args.types.now c.args.table.now c.args.ty f.0 c.in-Array.of c.in-Array.count c.args.part c.requires.table c.requires.known f.1 f.2 (c.get.ensures ∙ ap Some c.in-Array.is) in
-    rw c.size_at.ensures (omega (arith, h))
+    rw c.size_at.ensures.value (omega (arith, h))
 
 pub member_start-requires-clause-member : goal.member_start-requires-clause-member
 member_start-requires-clause-member c =

@@ -13,7 +13,7 @@ nonzero_rem-inner c = omega (arith, c.requires.table.counted.some c.args.ty c.re
 pub overflow_mul-place : goal.overflow_mul-place
 overflow_mul-place c =
     let b = before_bound c.args.types.now c.args.table.now c.args.ty c.args.leaf c.requires.table c.requires.known in
-    rw (c.leaves-leaves.ensures.value, c.size_at.ensures) (omega (arith, b, c.requires.near))
+    rw (c.leaves-leaves.ensures.value, c.size_at.ensures.value) (omega (arith, b, c.requires.near))
 
 pub down-init : goal.down-init
 down-init c =
@@ -22,8 +22,8 @@ down-init c =
     record {
       known = c.requires.known;
       inside = rw c.leaves-leaves.ensures.value (omega (arith, some));
-      near = rw (c.leaves-leaves.ensures.value, c.size_at.ensures) b;
-      same = place_begins c.args.table.now.layout c.args.types.now c.args.ty c.args.leaf c.leaves-leaves.result c.size_at.result c.leaves-leaves.ensures.value c.size_at.ensures;
+      near = rw (c.leaves-leaves.ensures.value, c.size_at.ensures.value) b;
+      same = place_begins c.args.table.now.layout c.args.types.now c.args.ty c.args.leaf c.leaves-leaves.result c.size_at.result c.leaves-leaves.ensures.value c.size_at.ensures.value;
     }
 
 pub overflow_add-place : goal.overflow_add-place

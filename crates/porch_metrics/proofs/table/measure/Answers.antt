@@ -1,6 +1,6 @@
 use Rattle.std.proofs.Common.{◌≤◌, ◌+◌, ◌∙◌, length, map, arith, ap, sym, subst, take, length-append, [], ◌∷◌}
 use Rattle.porch_metrics.specs.Extents.{extent_in, type_extent}
-use Rattle.porch_metrics.specs.Tables.{extent, places_of, AreMeasured, IsSmall}
+use Rattle.porch_metrics.specs.inside.Tables.{extent, places_of, AreMeasured, IsSmall}
 use Rattle.porch_metrics.proofs.Counted.{counted}
 use Rattle.porch_metrics.proofs.Measuring.{measured_small, measured_put, parts_few, take_all}
 use Rattle.porch_metrics.proofs.table.measure.Goals as goal
@@ -31,12 +31,13 @@ loop-number-preserved c =
       count = omega (arith, ap length c.in_ok-push.ensures.items, length-append ms (next ∷ []), c.loop-number.invariant.count);
       first = subst (AreMeasured l (take (c.loop-number.number + 1) types)) (sym c.in_ok-push.ensures.items)
           (measured_put l types c.loop-number.number c.get-ty.result.now ms next (counted c.args.types.now c.len-len.ensures.types c.leaves_add_up.ensures.together c.leaves_add_up.ensures.some) c.loop-number.invariant.first c.loop-number.invariant.count
-          c.get-ty.ensures (c.in_ok-next.ensures.extent ∙ ap (λ es. type_extent l (extent_in (map extent es)) c.get-ty.result.now) d)
+          c.get-ty.ensures (c.in_ok-next.ensures.extent_is ∙ ap (λ es. type_extent l (extent_in (map extent es)) c.get-ty.result.now) d)
           (c.in_ok-next.ensures.places ∙ ap (λ es. places_of (extent_in (map extent es)) c.get-ty.result.now) d));
     }
 
 pub returns-clause-table : goal.returns-clause-table
 returns-clause-table c = record {
+  types_are = c.len-len.ensures.types;
   counted = counted c.args.types.now c.len-len.ensures.types c.leaves_add_up.ensures.together c.leaves_add_up.ensures.some;
   layout = c.requires;
   measured = subst (λ ts. AreMeasured c.args.layout.now ts c.loop-number.measured.items)

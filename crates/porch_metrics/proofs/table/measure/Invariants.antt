@@ -1,5 +1,5 @@
 use Rattle.std.proofs.Common.{◌≡◌, take, length}
-use Rattle.porch_metrics.specs.Tables.{AreMeasured}
+use Rattle.porch_metrics.specs.inside.Tables.{AreMeasured}
 use Rattle.porch_metrics.proofs.table.measure.Given as goal
 
 abbrev pub invariant-loop-number : goal.invariant-loop-number

@@ -1,13 +1,13 @@
 use Rattle.std.proofs.Common.{map, refl, arith}
 use Rattle.porch_metrics.specs.Extents.{extent_in}
-use Rattle.porch_metrics.specs.Tables.{extent}
+use Rattle.porch_metrics.specs.inside.Tables.{extent}
 use Rattle.porch_metrics.proofs.Bounds.{power_some}
 use Rattle.porch_metrics.proofs.Measuring.{greatest_le}
 use Rattle.porch_metrics.proofs.table.measure_struct.Goals as goal
 
 pub loop-member-init : goal.loop-member-init
 loop-member-init c =
-    let p = power_some c.args.layout.now.least_struct c.requires.layout.least_struct.power in
+    let p = power_some c.args.layout.now.least_struct c.requires.layout.least_struct.alignment in
     let f = extent_in (map extent c.args.measured.now) in
     record {
       low = omega arith;

@@ -1,6 +1,6 @@
 use Rattle.std.proofs.Common.{◌≡◌, ◌<◌, ◌≤◌, ◌*◌, ◌++◌, drop, max, map}
 use Rattle.porch_metrics.specs.Extents.{extent_in, member_places, members_end, greatest_align}
-use Rattle.porch_metrics.specs.Tables.{extent}
+use Rattle.porch_metrics.specs.inside.Tables.{extent}
 use Rattle.porch_metrics.proofs.table.measure_struct.Given as goal
 
 abbrev pub invariant-loop-member : goal.invariant-loop-member

@@ -1,7 +1,6 @@
+use Rattle.porch_objects.specs.Meaning.{without_input}
 use Rattle.porch_abstract.proofs.Steps.{ints_of_valid, labels_of_main}
-use Rattle.porch_abstract.specs.Kept.{state_of}
-use Rattle.porch_abstract.proofs.Framed.{continues_by}
-use Rattle.porch_abstract.proofs.Fitting.{begun_answers, begun_frames, running_answers, running_frames}
+use Rattle.porch_abstract.proofs.Fitting.{begun_answers, begun_frames, begun_continues, running_answers, running_frames, running_continues}
 use Rattle.porch_abstract.proofs.machine.Abstract.step.Goals as goal
 
 pub proceed-requires-clause-labels : goal.proceed-requires-clause-labels
@@ -16,7 +15,7 @@ returns-in-Begun-clause-steps c =
     let e = c.main.ensures in
     let is = ints_of_valid c.args.program.now c.main.result.now e.valid e.only e.main in
     rw (← c.self.view_is)
-    (begun_answers c.args.program.now c.self.inside.widths c.main.result.now is c.self.inside.run c.enter.new.self c.enter.result c.len.result c.len.ensures c.in-Begun.is c.self.invariant c.enter.ensures.went)
+    (begun_answers c.args.program.now c.main.result.now is c.self.inside.run c.enter.new.self c.enter.result c.len.result c.len.ensures (without_input c.self.inside.widths) c.in-Begun.is c.enter.ensures.went)
 
 pub returns-in-Begun-clause-fits : goal.returns-in-Begun-clause-fits
 returns-in-Begun-clause-fits c =
@@ -34,7 +33,7 @@ returns-in-Running-clause-steps c =
     let is = ints_of_valid c.args.program.now c.main-in-Running.result.now e.valid e.only e.main in
     let fits = rw (← c.self.view_is) at c.requires.fits in
     rw (← c.self.view_is)
-    (running_answers c.args.program.now c.self.inside.widths c.main-in-Running.result.now is c.self.inside.labels fits.labels c.self.inside.run c.proceed.new.self c.proceed.result c.in-Running.is c.proceed.ensures.led)
+    (running_answers c.args.program.now (without_input c.self.inside.widths) c.main-in-Running.result.now is c.self.inside.labels fits.labels c.self.inside.run c.proceed.new.self c.proceed.result c.in-Running.is c.proceed.ensures.led)
 
 pub returns-in-Running-clause-fits : goal.returns-in-Running-clause-fits
 returns-in-Running-clause-fits c =
@@ -43,21 +42,20 @@ returns-in-Running-clause-fits c =
     let fits = rw (← c.self.view_is) at c.requires.fits in
     record {
       labels = fits.labels;
-      frames = running_frames c.args.program.now c.self.inside.widths c.main-in-Running.result.now is c.self.inside.labels fits.labels c.self.inside.run c.proceed.new.self c.proceed.result c.in-Running.is fits.frames
-          c.proceed.ensures.led;
+      frames = running_frames c.args.program.now (without_input c.self.inside.widths) c.main-in-Running.result.now is c.self.inside.labels fits.labels c.self.inside.run c.proceed.new.self c.proceed.result c.in-Running.is
+          fits.frames c.proceed.ensures.led;
     }
 
 pub returns-in-Begun-clause-goes_on : goal.returns-in-Begun-clause-goes_on
 returns-in-Begun-clause-goes_on c =
     let e = c.main.ensures in
     let is = ints_of_valid c.args.program.now c.main.result.now e.valid e.only e.main in
-    continues_by c.args.program.now c.self.inside.widths (state_of c.self.inside.run) (state_of c.enter.new.self) c.enter.result
-    (begun_answers c.args.program.now c.self.inside.widths c.main.result.now is c.self.inside.run c.enter.new.self c.enter.result c.len.result c.len.ensures c.in-Begun.is c.self.invariant c.enter.ensures.went)
+    begun_continues c.args.program.now c.main.result.now is c.self.inside.run c.enter.new.self c.enter.result c.len.result c.len.ensures c.enter.ensures.went
 
 pub returns-in-Running-clause-goes_on : goal.returns-in-Running-clause-goes_on
 returns-in-Running-clause-goes_on c =
     let e = c.main-in-Running.ensures in
     let is = ints_of_valid c.args.program.now c.main-in-Running.result.now e.valid e.only e.main in
     let fits = rw (← c.self.view_is) at c.requires.fits in
-    continues_by c.args.program.now c.self.inside.widths (state_of c.self.inside.run) (state_of c.proceed.new.self) c.proceed.result
-    (running_answers c.args.program.now c.self.inside.widths c.main-in-Running.result.now is c.self.inside.labels fits.labels c.self.inside.run c.proceed.new.self c.proceed.result c.in-Running.is c.proceed.ensures.led)
+    running_continues c.args.program.now (without_input c.self.inside.widths) c.main-in-Running.result.now is c.self.inside.labels fits.labels c.self.inside.run c.proceed.new.self c.proceed.result c.in-Running.is fits.frames
+    c.proceed.ensures.led

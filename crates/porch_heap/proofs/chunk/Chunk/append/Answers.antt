@@ -1,6 +1,6 @@
 use Rattle.std.proofs.Common.{◌≡◌, ◌≤◌, ◌+◌, ◌++◌, length, true, arith, ap}
 use Rattle.std.specs.Prelude.{is_ok}
-use Rattle.porch_heap.specs.Chunks.{after}
+use Rattle.porch_heap.specs.inside.ChunkRow.{after}
 use Rattle.porch_heap.proofs.ChunkKept.{kept_append}
 use Rattle.porch_heap.proofs.chunk.Chunk.append.Goals as goal
 

@@ -1,5 +1,5 @@
 use Rattle.std.proofs.Common.{◌≤◌, ◌+◌}
-use Rattle.porch_heap.specs.Searching.{Head}
+use Rattle.porch_heap.specs.inside.Searching.{Head}
 use Rattle.porch_heap.proofs.ChunkKept.{kept_begin}
 use Rattle.porch_heap.proofs.chunk.Chunk.begin_at.Goals as goal
 

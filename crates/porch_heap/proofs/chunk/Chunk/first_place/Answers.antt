@@ -1,4 +1,4 @@
-use Rattle.porch_heap.specs.Chunks.{NoRoom}
+use Rattle.porch_heap.specs.inside.ChunkRow.{NoRoom}
 use Rattle.porch_heap.proofs.After.{no_room_more}
 use Rattle.porch_heap.proofs.chunk.Chunk.first_place.Goals as goal
 

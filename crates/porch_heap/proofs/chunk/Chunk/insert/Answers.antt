@@ -1,7 +1,7 @@
 use Rattle.std.proofs.Common.{◌≡◌, ◌≤◌, ◌<◌, ◌+◌, length, take, drop, true, arith}
 use Rattle.std.specs.Prelude.{insert, is_ok}
-use Rattle.porch_heap.specs.Searching.{Divides, Head}
-use Rattle.porch_heap.specs.Chunks.{after}
+use Rattle.porch_heap.specs.inside.Searching.{Divides, Head}
+use Rattle.porch_heap.specs.inside.ChunkRow.{after}
 use Rattle.porch_heap.proofs.Changes.{stand_insert}
 use Rattle.porch_heap.proofs.ChunkKept.{kept_insert}
 use Rattle.porch_heap.proofs.chunk.Chunk.insert.Goals as goal

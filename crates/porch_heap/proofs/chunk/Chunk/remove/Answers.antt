@@ -1,7 +1,7 @@
 use Rattle.std.proofs.Common.{◌≤◌, ◌<◌, ◌+◌, take, drop, length, arith}
 use Rattle.std.specs.Prelude.{remove}
-use Rattle.porch_heap.specs.Searching.{Head}
-use Rattle.porch_heap.specs.Chunks.{after}
+use Rattle.porch_heap.specs.inside.Searching.{Head}
+use Rattle.porch_heap.specs.inside.ChunkRow.{after}
 use Rattle.porch_heap.proofs.Changes.{stand_remove}
 use Rattle.porch_heap.proofs.ChunkKept.{kept_remove}
 use Rattle.porch_heap.proofs.chunk.Chunk.remove.Goals as goal

@@ -1,6 +1,7 @@
 use Rattle.std.proofs.Common.{◌≡◌, false, true, ◌∙◌, refl}
 use Rattle.porch_heap.specs.Blocks.{without, begins}
-use Rattle.porch_heap.specs.Chunks.{blocks_of, rank}
+use Rattle.porch_heap.specs.Chunks.{blocks_of}
+use Rattle.porch_heap.specs.inside.ChunkRow.{rank}
 use Rattle.porch_heap.proofs.Changes.{without-remove, begins-head, begins-none}
 use Rattle.porch_heap.proofs.HeapKept.{removed_keeps}
 use Rattle.porch_heap.proofs.Ranks.{rank_within}

@@ -3,7 +3,7 @@ use Rattle.std.specs.Prelude.{insert}
 use Rattle.porch_heap.specs.declared.block.Block.{Block}
 use Rattle.porch_heap.specs.Blocks.{with_block}
 use Rattle.porch_heap.specs.Chunks.{blocks_of}
-use Rattle.porch_heap.specs.Seats.{number_of}
+use Rattle.porch_heap.specs.inside.Seats.{number_of}
 use Rattle.porch_heap.proofs.Changes.{with_block-insert}
 use Rattle.porch_heap.proofs.HeapKept.{inserted_keeps}
 use Rattle.porch_heap.proofs.heap.Heap.take.Goals as goal

@@ -2,9 +2,10 @@ use Rattle.std.proofs.Common.{◌≡◌, ◌≤◌, ◌+◌, ◌<◌, drop, leng
 use Rattle.std.specs.Prelude.{IfSome, IfNone}
 use Rattle.std.proofs.lemmas.List.{with_items_is}
 use Rattle.porch_heap.specs.Blocks.{Each, IsHeap, IsGap}
-use Rattle.porch_heap.specs.Searching.{EndsBefore, state}
-use Rattle.porch_heap.specs.Chunks.{NoRoom, HasNoRoom, IsFound, IsBehind, after, blocks_of, blocks_at, rank}
-use Rattle.porch_heap.specs.Seats.{blocks_before}
+use Rattle.porch_heap.specs.inside.Searching.{EndsBefore, state}
+use Rattle.porch_heap.specs.Chunks.{blocks_of}
+use Rattle.porch_heap.specs.inside.ChunkRow.{NoRoom, HasNoRoom, IsFound, IsBehind, after, blocks_at, rank}
+use Rattle.porch_heap.specs.inside.Seats.{blocks_before}
 use Rattle.porch_heap.proofs.Ranks.{blocks_split_at}
 use Rattle.porch_heap.proofs.Places.{found_gap, found_divides, hint_room, last_first, last_number, last_none}
 use Rattle.porch_heap.proofs.row.Row.first_place.Goals as goal

@@ -1,5 +1,6 @@
 use Rattle.std.proofs.Common.{◌+◌, ◌<◌, ◌∙◌, sym, ap, take, drop, length, arith, ◌≡◌}
-use Rattle.porch_heap.specs.Chunks.{rank, stop, after, blocks_of, blocks_at}
+use Rattle.porch_heap.specs.Chunks.{blocks_of}
+use Rattle.porch_heap.specs.inside.ChunkRow.{rank, stop, after, blocks_at}
 use Rattle.porch_heap.proofs.After.{after_append}
 use Rattle.porch_heap.proofs.Linked.{linked_from, linked_blocks}
 use Rattle.porch_heap.proofs.Chunked.{chunk_within}

@@ -1,7 +1,8 @@
 use Rattle.std.proofs.Common.{◌≡◌, ◌+◌, ◌-◌, max, ◌∙◌, sym, arith}
 use Rattle.std.proofs.lemmas.Bool.Decides.{nat_tests}
 use Rattle.porch_heap.specs.Blocks.{Stand}
-use Rattle.porch_heap.specs.Chunks.{after, blocks_of, widest}
+use Rattle.porch_heap.specs.Chunks.{blocks_of}
+use Rattle.porch_heap.specs.inside.ChunkRow.{after, widest}
 use Rattle.porch_heap.proofs.After.{after_high}
 use Rattle.porch_heap.proofs.Places.{longest_widest}
 use Rattle.porch_heap.proofs.row.Row.longest_run.Goals as goal

@@ -1,5 +1,6 @@
 use Rattle.std.proofs.Common.{◌<◌, ◌∙◌, ap, length, arith}
-use Rattle.porch_heap.specs.Chunks.{blocks_of, blocks_at, rank}
+use Rattle.porch_heap.specs.Chunks.{blocks_of}
+use Rattle.porch_heap.specs.inside.ChunkRow.{blocks_at, rank}
 use Rattle.porch_heap.proofs.Ranks.{rank_within, length_less}
 use Rattle.porch_heap.proofs.row.Row.remove.Goals as goal
 

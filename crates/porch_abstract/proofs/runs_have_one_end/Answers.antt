@@ -1,5 +1,0 @@
-use Rattle.porch_abstract.proofs.Ends.{one_run}
-use Rattle.porch_abstract.proofs.runs_have_one_end.Goals as goal
-
-pub returns : goal.returns
-returns c = one_run

@@ -1,0 +1,166 @@
+//! What no clause says of outputs: that calls succeed, how many device calls they cost, what a crash at each call leaves.
+
+ghost use Rattle.std.specs.Prelude.{OnOk};
+ghost use Rattle.porch_edge.specs.Disk.{untold};
+ghost use Rattle.porch_output.specs.Outputs.{IsSpent, IsReady};
+
+use porch_edge::{Disk, Failed, FileName, MemDisk, MemSink, Pick, Stop};
+use porch_output::{Output, Shown};
+use std::alloc::{AllocError, Global};
+use std::test::Fail;
+
+// A device that keeps nothing and counts.
+#[derive(Drop)]
+struct Counting {
+    writes: u64,
+    syncs: u64,
+}
+
+impl Disk for Counting {
+    ghost state = { λ _. untold };
+
+    // It may have failed as often as can be counted.
+    ghost faults = { λ _. 18446744073709551615 };
+
+    fn len(&mut self, _: FileName) -> Result<u64, Failed> {
+        Ok(0)
+    }
+
+    fn read(&mut self, _: FileName, _: u64, _: &mut [u8]) -> Result<usize, Failed> {
+        Ok(0)
+    }
+
+    fn write_at(&mut self, _: FileName, at: u64, bytes: &[u8]) -> Result<(), Failed> {
+        if at > 1 << 61 || bytes.len() > 1 << 61 {
+            return Err(Failed);
+        }
+        self.writes = self.writes.saturating_add(1);
+        Ok(())
+    }
+
+    fn cut(&mut self, _: FileName, len: u64) -> Result<(), Failed> {
+        if len > 1 << 61 { Err(Failed) } else { Ok(()) }
+    }
+
+    fn sync(&mut self, _: FileName) -> Result<(), Failed> {
+        self.syncs = self.syncs.saturating_add(1);
+        Ok(())
+    }
+
+    ghost reads_leave = { λ _. tt };
+
+    ghost counts_now = { λ _. tt };
+
+    ghost only_now = { λ _. tt };
+
+    ghost is_within = { λ _. tt };
+}
+
+// Puts a piece some times.
+fn put_often<D: Disk>(
+    output: &mut Output,
+    disk: &mut D,
+    piece: &[u8],
+    times: u64,
+) -> Result<(), Failed>
+    requires usable { ¬ IsSpent output.old }
+    requires ready { IsReady output.old (D.state disk.old) }
+    ensures usable { OnOk result (¬ IsSpent output.new) }
+    ensures ready { OnOk result (IsReady output.new (D.state disk.new)) }
+{
+    for _i in 0..times {
+        output.put(disk, piece)?;
+    }
+    Ok(())
+}
+
+#[test]
+fn a_million_bytes_cost_few_writes(rt: HostRuntime) -> Result<(), Fail> {
+    let mut disk = Counting {
+        writes: 0,
+        syncs: 0,
+    };
+    let mut output = Output::attach(&mut disk)?;
+    put_often(&mut output, &mut disk, b"x", 1_000_000)?;
+    assert_eq!(rt; (output.len(), disk.writes), (1_000_000, 244));
+    output.flush(&mut disk)?;
+    assert_eq!(rt;
+        (output.len(), disk.writes, disk.syncs),
+        (1_000_000, 245, 2)
+    );
+    output.flush(&mut disk)?;
+    assert_eq!(rt; (disk.writes, disk.syncs), (245, 3));
+    Ok(())
+}
+
+// Cuts a file of 6,000 bytes back to 5,000 and adds 4,200 in two pieces, in seven calls.
+fn seven_calls(disk: &mut MemDisk) -> Result<u64, Failed> {
+    let mut output = Output::attach(disk)?;
+    if output.len() < 5000 {
+        return Ok(0);
+    }
+    output.cut_back(disk, 5000)?;
+    output.put(disk, &[b'1'; 4000])?;
+    output.put(disk, &[b'2'; 200])?;
+    output.flush(disk)?;
+    Ok(output.len())
+}
+
+fn disk_of_6000(alloc: Global) -> Result<MemDisk, AllocError> {
+    let mut disk = MemDisk::new(alloc);
+    disk.put(FileName::Output, &[b'o'; 6000])?;
+    Ok(disk)
+}
+
+#[test]
+fn a_crash_leaves_the_beginning(rt: HostRuntime) -> Result<(), Fail> {
+    let alloc = rt.alloc();
+    let mut whole = [b'1'; 9200];
+    whole[..5000].copy_from_slice(&[b'o'; 5000]);
+    whole[9000..].copy_from_slice(&[b'2'; 200]);
+    for call in 1..=8 {
+        for pick in [Pick::Old, Pick::New, Pick::Fill(0), Pick::Fill(255)] {
+            let mut disk = disk_of_6000(alloc)?;
+            disk.stop_at(Stop { call, pick });
+            let done = seven_calls(&mut disk);
+            assert_eq!(rt; done, if call == 8 { Ok(9200) } else { Err(Failed) });
+            let disk = disk.revive();
+            let left = disk.file(FileName::Output);
+            assert_eq!(rt; left.starts_with(&whole[..5000]), true);
+            if call == 8 || call >= 6 && matches!(pick, Pick::New) {
+                assert_eq!(rt; left, whole.as_slice());
+            }
+        }
+        let mut disk = disk_of_6000(alloc)?;
+        disk.fail_at(call);
+        assert_eq!(rt; seven_calls(&mut disk).is_ok(), call == 8);
+        assert_eq!(rt;
+            disk.file(FileName::Output).starts_with(&whole[..5000]),
+            true
+        );
+    }
+    Ok(())
+}
+
+// Shows 9,001 bytes in three pieces.
+fn show_three(out: &mut MemSink) -> Result<(), Failed> {
+    let mut shown = Shown::new();
+    shown.put(out, b"a")?;
+    shown.put(out, &[b'b'; 5000])?;
+    shown.put(out, &[b'c'; 4000])?;
+    shown.flush(out)
+}
+
+#[test]
+fn a_sink_gets_what_is_shown(rt: HostRuntime) -> Result<(), Fail> {
+    let alloc = rt.alloc();
+    let mut whole = [b'b'; 9001];
+    whole[0] = b'a';
+    whole[5001..].copy_from_slice(&[b'c'; 4000]);
+    for (fails, left) in [(1, 0), (2, 4096), (3, 8192), (4, 9001)] {
+        let mut out = MemSink::new(alloc, vec![in alloc; fails]?);
+        assert_eq!(rt; show_three(&mut out).is_ok(), fails == 4);
+        assert_eq!(rt; out.held(), &whole[..left]);
+    }
+    Ok(())
+}
