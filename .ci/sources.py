@@ -258,6 +258,7 @@ def declared(crate, parts, name):
     raise Unresolved(f"{crate}: no source declares {'.'.join(parts)}.{name}")
 
 
+QUOTE = re.compile(r"⟦([^⟧]*)⟧(?:\.\w+)?")
 TOKEN = re.compile(r"\[\]|[^\s(){};,\[\]]+")
 # A word between an opening bracket and ` : ` is bound there, and one between λ and its dot.
 BINDERS = [re.compile(r"[({]\s*([^(){}:]+?)\s+:\s"), re.compile(r"λ\s*([^.(){}]*)\."), re.compile(r"\blet\s+(\S+)\s")]
@@ -285,6 +286,13 @@ def cited(text, scope, own, local, where, rust=None, hidden=frozenset()):
     """The declarations that a term cites. `own` finds a name of the same file, `rust` one that a source brings; a hidden
     name is a variable, whatever else has the name."""
     found = {}
+    # `⟦<Type as Trait>⟧.member` names what an impl answers.
+    for quote in QUOTE.findall(text):
+        for word in re.findall(r"\w+", quote):
+            target = rust(word) if rust else None
+            if target:
+                found[target.key] = target
+    text = QUOTE.sub(" ", text)
     label_names = labels(text)
     for token in TOKEN.findall(text):
         if re.fullmatch(r"[\d_]+(\.\d+)*|0x[0-9a-f]+|\"[^\"]*\"?|.*\"", token):
