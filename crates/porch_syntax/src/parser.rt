@@ -31,7 +31,8 @@ fn read(alloc: Global, text: &[u8]) -> Result<Option<Tree>, AllocError>
 /// as Unbuilt at byte 0.
 pub fn parse(alloc: Global, text: &[u8]) -> Result<Tree, SourceFault>
     ensures read { IfOk result (λ tree. IsSource text.now (program_of tree)) }
-    ensures only { (p : Program) → IsSource text.now p → MatchResult result (λ tree. program_of tree ≡ p) (λ e. e ≡ SourceFault.NoMemory) }
+    ensures only { (p : Program) → IsSource text.now p
+        → MatchResult result (λ tree. program_of tree ≡ p) (λ e. e ≡ SourceFault.NoMemory) }
     ensures refused { IfErr result (λ e. (e ≡ SourceFault.NoMemory) ⊎ IsRefusal text.now e) }
 {
     if text.len() > MOST_BYTES {
