@@ -258,6 +258,7 @@ def declared(crate, parts, name):
     raise Unresolved(f"{crate}: no source declares {'.'.join(parts)}.{name}")
 
 
+QUOTE = re.compile(r"⟦([^⟧]*)⟧(?:\.\w+)?")
 TOKEN = re.compile(r"\[\]|[^\s(){};,\[\]]+")
 # A word between an opening bracket and ` : ` is bound there, and one between λ and its dot.
 BINDERS = [re.compile(r"[({]\s*([^(){}:]+?)\s+:\s"), re.compile(r"λ\s*([^.(){}]*)\."), re.compile(r"\blet\s+(\S+)\s")]
@@ -285,6 +286,13 @@ def cited(text, scope, own, local, where, rust=None, hidden=frozenset()):
     """The declarations that a term cites. `own` finds a name of the same file, `rust` one that a source brings; a hidden
     name is a variable, whatever else has the name."""
     found = {}
+    # `⟦<Type as Trait>⟧.member` names what an impl answers.
+    for quote in QUOTE.findall(text):
+        for word in re.findall(r"\w+", quote):
+            target = rust(word) if rust else None
+            if target:
+                found[target.key] = target
+    text = QUOTE.sub(" ", text)
     label_names = labels(text)
     for token in TOKEN.findall(text):
         if re.fullmatch(r"[\d_]+(\.\d+)*|0x[0-9a-f]+|\"[^\"]*\"?|.*\"", token):
@@ -317,42 +325,56 @@ def cited(text, scope, own, local, where, rust=None, hidden=frozenset()):
     return found
 
 
-def split_clauses(definition):
-    """The signature of a function, and its clauses as pairs of left and right sides."""
-    text = "\n".join(definition.lines)
-    if definition.kind != "function":
-        return text, []
-    pieces = re.split(rf"\n(?=\s{{{definition.indent}}}\S)", text)
-    pairs = []
-    for piece in pieces[1:]:
-        left, found, right = re.sub(r"\s+", " ", piece).partition(" = ")
-        pairs.append((left, right if found else ""))
-    return pieces[0], pairs
+WHERE = re.compile(r"\n[ ]*where[ ]*(?=\n)")
+
+
+def pieces_of(text, indent):
+    """The signatures and clauses of a text, each from a line of this indentation on."""
+    return [piece for piece in re.split(rf"\n(?=[ ]{{{indent}}}\S)", "\n" + text.strip("\n")) if piece.strip()]
 
 
 def cited_by_definition(definition):
     """What a definition cites, by its signature, its patterns and its right sides."""
     file = definition.file
-    own = file.owners.get
-    signature, clauses = split_clauses(definition)
-    around = definition.around
+    text = "\n".join(definition.lines)
     where = f"{file.path.relative_to(TOP)}: {definition.name}"
-    outer = bound_names(around) | {definition.name} | set(definition.members)
-    found = cited(around, file.scope, own, outer | {"module"}, where)
-    if definition.kind != "function":
+    outer = bound_names(definition.around) | {definition.name} | set(definition.members)
+    found = cited(definition.around, file.scope, file.owners.get, outer | {"module"}, where)
+    if definition.kind == "function":
+        found.update(cited_by_function_text(file, text, definition.indent, outer, {definition.name}, where))
+    else:
         # A field or a constructor may have the name of another definition of the file.
         own_members = set(definition.members) | {definition.name}
-        found.update(cited(signature, file.scope, lambda name: None if name in own_members else own(name), outer | bound_names(signature), where))
-    else:
-        found.update(cited(signature, file.scope, own, outer | bound_names(signature), where))
-    for left, right in clauses:
+        own = lambda name: None if name in own_members else file.owners.get(name)
+        found.update(cited(text, file.scope, own, outer | bound_names(text), where))
+    found.pop(definition.key, None)
+    return found
+
+
+def cited_by_function_text(file, text, indent, outer, names, where):
+    """What the signatures and clauses of functions cite, with those that stand in their `where`. `names` are these functions."""
+    found = {}
+    own = file.owners.get
+    for piece in pieces_of(text, indent):
+        piece, *local = WHERE.split(piece)
+        below = "\n".join(local)
+        first = next((line for line in below.split("\n") if line.strip()), "")
+        inner = len(first) - len(first.lstrip())
+        local_names = {line.split()[0] for line in below.split("\n") if re.match(rf"[ ]{{{inner}}}{NAME}\s+:\s", line)}
+        left, equals, right = re.sub(r"\s+", " ", piece).strip().partition(" = ")
+        if not equals or re.match(rf"(?:abbrev\s|unfoldable\s|pub\s)*{NAME}\s+:\s", left):
+            signature = re.sub(r"\s+", " ", piece)
+            found.update(cited(signature, file.scope, own, outer | names | bound_names(signature), where))
+            continue
         patterns = set(TOKEN.findall(left))
         # A pattern's names are bound, but for constructors and the function itself.
         constructors = {name for name in patterns if is_constructor(name, file)}
         found.update(cited(" ".join(constructors), file.scope, own, outer, where))
-        variables = patterns - constructors - {definition.name}
-        found.update(cited(right, file.scope, own, outer | bound_names(right), where, hidden=variables))
-    found.pop(definition.key, None)
+        variables = patterns - constructors - names
+        bound = outer | names | local_names | bound_names(right)
+        found.update(cited(right, file.scope, own, bound, where, hidden=variables | local_names))
+        if below:
+            found.update(cited_by_function_text(file, below, inner, outer | variables | local_names, local_names, where))
     return found
 
 

@@ -125,7 +125,8 @@ fn expression_of(atom: Atom) -> Expr
 }
 
 fn multiply(alloc: Global, factors: Option<Factors>, factor: Expr) -> Result<Factors, AllocError>
-    ensures { IfOk result (λ f. factors_of f ≡ with_factor (option_map factors_of factors) (node_of factor)) }
+    ensures { IfOk result
+        (λ f. factors_of f ≡ with_factor (option_map factors_of factors) (node_of factor)) }
 {
     match factors {
         None => Ok(Factors {
@@ -153,7 +154,8 @@ fn product(alloc: Global, factors: Factors) -> Result<Expr, AllocError>
 }
 
 fn add(alloc: Global, terms: Option<Terms>, term: Expr, sign: Sign) -> Result<Terms, AllocError>
-    ensures { IfOk result (λ t. terms_view t ≡ with_term (option_map terms_view terms) (node_of term) sign) }
+    ensures { IfOk result
+        (λ t. terms_view t ≡ with_term (option_map terms_view terms) (node_of term) sign) }
 {
     match terms {
         None => Ok(Terms {
@@ -268,7 +270,8 @@ fn end(mut frames: Items<Frame>, value: Expr) -> Outcome
 }
 
 fn measure(frames: Items<Frame>, room: usize, left: Option<Expr>, sum: Expr) -> Outcome
-    ensures { outcome_of result ≡ measured (frames_of frames) room (option_map node_of left) (node_of sum) }
+    ensures { outcome_of result ≡ measured (frames_of frames) room (option_map node_of left)
+        (node_of sum) }
 {
     match left {
         None => {
@@ -319,7 +322,8 @@ fn add_next(
     factors: Factors,
     sign: Sign,
 ) -> Result<Outcome, AllocError>
-    ensures { IfOk result (λ o. outcome_of o ≡ behind_step (frames_of frames) (front_of front) (factors_of factors) (Part.Add sign)) }
+    ensures { IfOk result (λ o. outcome_of o ≡ behind_step (frames_of frames) (front_of front)
+        (factors_of factors) (Part.Add sign)) }
 {
     let Front { room, left, terms } = front;
     let term = product(alloc, factors)?;
@@ -340,7 +344,8 @@ fn measure_next(
     front: Front,
     factors: Factors,
 ) -> Result<Outcome, AllocError>
-    ensures { IfOk result (λ o. outcome_of o ≡ behind_step (frames_of frames) (front_of front) (factors_of factors) Part.Less) }
+    ensures { IfOk result (λ o. outcome_of o ≡ behind_step (frames_of frames) (front_of front)
+        (factors_of factors) Part.Less) }
 {
     let Front { room, left, terms } = front;
     let last = product(alloc, factors)?;
@@ -355,7 +360,8 @@ fn behind_atom(
     factors: Factors,
     part: Part,
 ) -> Result<Outcome, AllocError>
-    ensures { IfOk result (λ o. outcome_of o ≡ behind_step (frames_of frames) (front_of front) (factors_of factors) part) }
+    ensures { IfOk result (λ o. outcome_of o ≡ behind_step (frames_of frames) (front_of front)
+        (factors_of factors) part) }
 {
     match part {
         Part::Times => Ok(Outcome::Goes(Reading::Atom(

@@ -27,7 +27,9 @@ fn take<'a>(
     lexeme: &'a [u8],
 ) -> Result<bool, AllocError>
     requires { length names.old.keys < 2 ^ 20 }
-    ensures taken { IfOk result (λ going. Taken (kind_of lexeme.now) lexeme.now tokens.old.items (shown names.old.keys) tokens.new.items (shown names.new.keys) going) }
+    ensures taken { IfOk result
+        (λ going. Taken (kind_of lexeme.now) lexeme.now tokens.old.items (shown names.old.keys)
+        tokens.new.items (shown names.new.keys) going) }
     ensures count { OnOk result (length names.new.keys ≤ length names.old.keys + 1) }
 {
     match classify(lexeme) {
@@ -53,8 +55,12 @@ fn advance<'a>(
 ) -> Result<Option<&'a [u8]>, AllocError>
     requires some { 0 < length rest.now }
     requires few { length names.old.keys < 2 ^ 20 }
-    ensures next { IfOk result (λ next. gone_on tokens.new.items (shown names.new.keys) next ≡ behind tokens.old.items (lex rest.now 0 (shown names.old.keys))) }
-    ensures shorter { IfOk result (λ next. IfSome next (λ last. (length last.now < length rest.now) × (length names.new.keys + length last.now ≤ length names.old.keys + length rest.now))) }
+    ensures next { IfOk result
+        (λ next. gone_on tokens.new.items (shown names.new.keys) next ≡ behind tokens.old.items
+        (lex rest.now 0 (shown names.old.keys))) }
+    ensures shorter { IfOk result
+        (λ next. IfSome next (λ last. (length last.now < length rest.now)
+        × (length names.new.keys + length last.now ≤ length names.old.keys + length rest.now))) }
 {
     if space(rest[0]) {
         return Ok(Some(&rest[1..]));
@@ -70,7 +76,8 @@ fn advance<'a>(
 /// The tokens of a text, where it has nothing else but white space between them.
 pub fn tokens(alloc: Global, text: &[u8]) -> Result<Option<Vec<Token>>, AllocError>
     requires { length text.now ≤ 2 ^ 20 }
-    ensures { IfOk result (λ found. option_map (λ v. v.items) found ≡ option_map (λ l. l.tokens) (lex text.now 0 [])) }
+    ensures { IfOk result (λ found. option_map (λ v. v.items) found ≡ option_map (λ l. l.tokens)
+        (lex text.now 0 [])) }
 {
     let mut names = IndexSet::new(alloc);
     let mut found = Vec::new(alloc);

@@ -14,7 +14,7 @@ use std::alloc::{AllocError, Global};
 
 const MOST_BYTES: usize = 1048576;
 
-#[tactic(auto, unfolding(crate::specs::Source::source_of))]
+#[tactic(auto, unfolding(crate::specs::inside::Source::source_of))]
 fn read(alloc: Global, text: &[u8]) -> Result<Option<Tree>, AllocError>
     requires { length text.now ≤ 2 ^ 20 }
     ensures { IfOk result (λ found. option_map program_of found ≡ source_of text.now) }
@@ -31,7 +31,8 @@ fn read(alloc: Global, text: &[u8]) -> Result<Option<Tree>, AllocError>
 /// as Unbuilt at byte 0.
 pub fn parse(alloc: Global, text: &[u8]) -> Result<Tree, SourceFault>
     ensures read { IfOk result (λ tree. IsSource text.now (program_of tree)) }
-    ensures only { (p : Program) → IsSource text.now p → MatchResult result (λ tree. program_of tree ≡ p) (λ e. e ≡ SourceFault.NoMemory) }
+    ensures only { (p : Program) → IsSource text.now p
+        → MatchResult result (λ tree. program_of tree ≡ p) (λ e. e ≡ SourceFault.NoMemory) }
     ensures refused { IfErr result (λ e. (e ≡ SourceFault.NoMemory) ⊎ IsRefusal text.now e) }
 {
     if text.len() > MOST_BYTES {

@@ -56,7 +56,8 @@ fn tree_at(written: Written, phase: Phase) -> Option<Tree>
 }
 
 fn tree_of(alloc: Global, tokens: &[Token]) -> Result<Option<Tree>, AllocError>
-    ensures { IfOk result (λ found. option_map program_of found ≡ program_in (run tokens.now beginning)) }
+    ensures { IfOk result
+        (λ found. option_map program_of found ≡ program_in (run tokens.now beginning)) }
 {
     let mut written = Written {
         variables: Items::new(alloc),

@@ -86,14 +86,16 @@ fn variable_count(written: &Written, purpose: Purpose) -> usize
 }
 
 fn add_variable(written: &mut Written, value: Option<Expr>) -> Result<Option<Phase>, AllocError>
-    ensures { IfOk result (λ next. after written.new next ≡ with_variable (written_of written.old) (option_map node_of value)) }
+    ensures { IfOk result (λ next. after written.new next ≡ with_variable (written_of written.old)
+        (option_map node_of value)) }
 {
     written.variables.push(value)?;
     Ok(Some(Phase::Declarations))
 }
 
 fn add_statement(written: &mut Written, statement: Stmt) -> Result<Option<Phase>, AllocError>
-    ensures { IfOk result (λ next. after written.new next ≡ with_action (written_of written.old) (action_of statement)) }
+    ensures { IfOk result (λ next. after written.new next ≡ with_action (written_of written.old)
+        (action_of statement)) }
 {
     written.statements.push(statement)?;
     Ok(Some(Phase::Statements))
@@ -136,7 +138,8 @@ fn name_new(written: &Written, x: u32) -> Option<Phase>
 }
 
 fn enter(alloc: Global, written: &mut Written, condition: Expr) -> Result<Option<Phase>, AllocError>
-    ensures { IfOk result (λ next. after written.new next ≡ entered (written_of written.old) (node_of condition)) }
+    ensures { IfOk result (λ next. after written.new next ≡ entered (written_of written.old)
+        (node_of condition)) }
 {
     let before = mem::replace(&mut written.statements, Items::new(alloc));
     written.blocks.push(Block { condition, before })?;
@@ -167,7 +170,8 @@ fn in_statements(
     written: &mut Written,
     token: Token,
 ) -> Result<Option<Phase>, AllocError>
-    ensures { IfOk result (λ next. after written.new next ≡ statement_step (written_of written.old) token) }
+    ensures { IfOk result (λ next. after written.new next ≡ statement_step (written_of written.old)
+        token) }
 {
     match token {
         Token::Name(x) => Ok(name(written, x)),
@@ -197,7 +201,8 @@ fn in_declarations(
     written: &mut Written,
     token: Token,
 ) -> Result<Option<Phase>, AllocError>
-    ensures { IfOk result (λ next. after written.new next ≡ declaration_step (written_of written.old) token) }
+    ensures { IfOk result
+        (λ next. after written.new next ≡ declaration_step (written_of written.old) token) }
 {
     match token {
         Token::Int => Ok(Some(Phase::Declaring)),
@@ -253,7 +258,8 @@ fn in_declared(
     written: &mut Written,
     token: Token,
 ) -> Result<Option<Phase>, AllocError>
-    ensures { IfOk result (λ next. after written.new next ≡ declared_step (written_of written.old) token) }
+    ensures { IfOk result (λ next. after written.new next ≡ declared_step (written_of written.old)
+        token) }
 {
     match token {
         Token::Semicolon => add_variable(written, None),
@@ -365,7 +371,8 @@ fn in_entering(
     condition: Expr,
     token: Token,
 ) -> Result<Option<Phase>, AllocError>
-    ensures { IfOk result (λ next. after written.new next ≡ entering_step (written_of written.old) (node_of condition) token) }
+    ensures { IfOk result (λ next. after written.new next ≡ entering_step (written_of written.old)
+        (node_of condition) token) }
 {
     match token {
         Token::OpenBrace => enter(alloc, written, condition),
@@ -391,7 +398,8 @@ fn in_entering(
 }
 
 fn in_printed(written: &mut Written, value: Expr, token: Token) -> Result<Option<Phase>, AllocError>
-    ensures { IfOk result (λ next. after written.new next ≡ printed_step (written_of written.old) (node_of value) token) }
+    ensures { IfOk result (λ next. after written.new next ≡ printed_step (written_of written.old)
+        (node_of value) token) }
 {
     match token {
         Token::Semicolon => add_statement(written, Stmt::Putchar(value)),
@@ -422,7 +430,8 @@ fn at_semicolon(
     purpose: Purpose,
     value: Expr,
 ) -> Result<Option<Phase>, AllocError>
-    ensures { IfOk result (λ next. after written.new next ≡ semicolon_step (written_of written.old) purpose (node_of value)) }
+    ensures { IfOk result (λ next. after written.new next ≡ semicolon_step (written_of written.old)
+        purpose (node_of value)) }
 {
     match purpose {
         Purpose::Initial => add_variable(written, Some(value)),
@@ -435,7 +444,8 @@ fn at_semicolon(
 
 /// A `)` behind an expression.
 fn at_parenthesis(written: &Written, purpose: Purpose, value: Expr) -> Option<Phase>
-    ensures { after written.now result ≡ parenthesis_step (written_of written.now) purpose (node_of value) }
+    ensures { after written.now result ≡ parenthesis_step (written_of written.now) purpose
+        (node_of value) }
 {
     match purpose {
         Purpose::Initial => None,
@@ -452,7 +462,8 @@ fn at_end(
     value: Expr,
     token: Token,
 ) -> Result<Option<Phase>, AllocError>
-    ensures { IfOk result (λ next. after written.new next ≡ end_step (written_of written.old) purpose (node_of value) token) }
+    ensures { IfOk result (λ next. after written.new next ≡ end_step (written_of written.old)
+        purpose (node_of value) token) }
 {
     match token {
         Token::Semicolon => at_semicolon(written, purpose, value),
@@ -483,7 +494,8 @@ fn finish(
     outcome: Outcome,
     token: Token,
 ) -> Result<Option<Phase>, AllocError>
-    ensures { IfOk result (λ next. after written.new next ≡ outcome_step (written_of written.old) purpose token (outcome_of outcome)) }
+    ensures { IfOk result (λ next. after written.new next ≡ outcome_step (written_of written.old)
+        purpose token (outcome_of outcome)) }
 {
     match outcome {
         Outcome::Goes(reading) => Ok(Some(Phase::Reading(purpose, reading))),
@@ -500,7 +512,8 @@ fn in_reading(
     reading: Reading,
     token: Token,
 ) -> Result<Option<Phase>, AllocError>
-    ensures { IfOk result (λ next. after written.new next ≡ reading_step (written_of written.old) purpose (reading_of reading) token) }
+    ensures { IfOk result (λ next. after written.new next ≡ reading_step (written_of written.old)
+        purpose (reading_of reading) token) }
 {
     let count = variable_count(written, purpose);
     let outcome = read(alloc, reading, part_at(token, count))?;
@@ -514,7 +527,8 @@ pub fn advance(
     phase: Phase,
     token: Token,
 ) -> Result<Option<Phase>, AllocError>
-    ensures { IfOk result (λ next. after written.new next ≡ step (written_of written.old) (phase_of phase) token) }
+    ensures { IfOk result
+        (λ next. after written.new next ≡ step (written_of written.old) (phase_of phase) token) }
 {
     match phase {
         Phase::Declarations => in_declarations(alloc, written, token),
