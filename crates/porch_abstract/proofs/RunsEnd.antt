@@ -23,7 +23,7 @@ use Rattle.porch_flat.specs.Parts.{commands_of, counts}
 use Rattle.porch_flat.specs.Places.{is_label, place_of_label, main_of}
 use Rattle.porch_flat.specs.Valid.{IsValid, IsMain, Leads, GoesOnWell}
 use Rattle.porch_abstract.specs.Machine.{State, Frame, Phase, before, running, over, Next, Goes, Ends, Meets, with_phase, with_store, shown, turned, put, operand_of, determined, counted, resulted, received, returned, onward, at_label, kind_in, operated, called, after, next}
-use Rattle.porch_abstract.specs.Run.{is_paused, run_to, then_on, Runs, RunsEnd}
+use Rattle.porch_abstract.specs.Run.{is_paused, run_to, then_on, RunsEnd}
 
 a_label : (m : ℕ) (c : Command) → is_label m c ≡ true → (k : ℕ) × (c ≡ command.Label k)
 a_label m (command.Move v o) h = absurd (cc)
