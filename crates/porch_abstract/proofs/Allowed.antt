@@ -23,7 +23,7 @@ use Rattle.porch_flat.specs.Valid.{IsMain, IsOperand, HasParts}
 use Rattle.porch_abstract.specs.declared.effects.Effect.{Effect}
 use Rattle.porch_abstract.specs.declared.effects.Effect.TheVariants.{On, Set, Show, Go, Count, End, Meet}
 use Rattle.porch_flat.specs.Parts.{counts}
-use Rattle.porch_abstract.specs.Effects.{IsInt, AreInts, given, operand_in, operated, place_of, set_to, effect_of}
+use Rattle.porch_abstract.specs.inside.Effects.{IsInt, AreInts, given, operand_in, operated, place_of, set_to, effect_of}
 
 int_operand : (f : Function) (o : Operand) → IsOperand f o → IsInt o
 int_operand f (Var v) h = tt

@@ -1,5 +1,5 @@
 -- A run has one end, and tells one list.
-use Rattle.std.proofs.Common.{◌≡◌, ℕ, zero, suc, ◌+◌, Bool, true, false, List, [], ◌++◌, refl, sym, ap, ◌∙◌, arith, add_comm, Option, Some, None}
+use Rattle.std.proofs.Common.{◌≡◌, ℕ, zero, suc, ◌+◌, Bool, true, false, List, [], ◌++◌, refl, sym, ap, ◌∙◌, arith, add_comm, Option, Some}
 use Rattle.std.specs.Prelude.{if◌then◌else◌}
 use Rattle.porch_objects.specs.Meaning.{Environment, Mark, Meaning, Ending, Paused}
 use Rattle.porch_flat.specs.declared.flat.Command.{Command}

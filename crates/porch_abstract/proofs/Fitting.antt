@@ -8,7 +8,6 @@ use Rattle.std.specs.declared.option.Option.{Option}
 use Rattle.std.specs.declared.alloc.AllocError.{AllocError}
 use Rattle.porch_values.specs.declared.widths.Widths.{Widths}
 use Rattle.porch_objects.specs.Meaning.{Environment}
-use Rattle.porch_objects.specs.Store.{Activation}
 use Rattle.porch_flat.specs.declared.flat.Command.{Command}
 use Rattle.porch_flat.specs.declared.flat.Function.{Function}
 use Rattle.porch_flat.specs.declared.flat.Flat.{Flat}
@@ -22,10 +21,10 @@ use Rattle.porch_abstract.specs.declared.phase.AStep.{AStep}
 use Rattle.porch_abstract.specs.declared.phase.AStep.TheVariants as astep
 use Rattle.porch_abstract.specs.declared.phase.Phase.{Phase}
 use Rattle.porch_abstract.specs.declared.phase.Phase.TheVariants.{Begun, Running, Over}
-use Rattle.porch_abstract.specs.Machine.{over, State, Next, Goes, Ends, Meets, next}
-use Rattle.porch_abstract.specs.Effects.{effect_of, effect_at}
+use Rattle.porch_abstract.specs.Machine.{State, Next, Goes, Ends, Meets, next}
+use Rattle.porch_abstract.specs.inside.Effects.{effect_of, effect_at}
 use Rattle.porch_abstract.specs.Held.{IsFrame, AreFrames, IsPhase, Answers, Continues}
-use Rattle.porch_abstract.specs.Kept.{int_object, main_frame, main_call, state_in, state_of, effected, led_to}
+use Rattle.porch_abstract.specs.inside.Kept.{int_object, main_frame, main_call, state_in, state_of, effected, led_to}
 use Rattle.porch_abstract.proofs.Steps.{IsInts, main_commands, main_vars, labels_of_main, begun_next, running_next}
 use Rattle.porch_abstract.proofs.Allowed.{IsAllowed, allowed}
 

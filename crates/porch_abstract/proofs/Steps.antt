@@ -1,5 +1,5 @@
 -- What a command does to the state that is kept is what the abstract machine does.
-use Rattle.std.proofs.Common.{◌≡◌, ◌+◌, ℕ, ℤ, pos, Bool, true, false, List, [], ◌∷◌, ◌++◌, length, inl, inr, sym, ◌∙◌, ap, refl}
+use Rattle.std.proofs.Common.{◌≡◌, ◌+◌, ℕ, ℤ, pos, Bool, true, false, List, [], ◌∷◌, ◌++◌, length, inl, inr, ◌∙◌, ap, refl}
 use Rattle.std.proofs.Math.ListN.{get_or}
 use Rattle.std.proofs.lemmas.Bool.{cases_lt}
 use Rattle.std.proofs.lemmas.List.{get_or_past}
@@ -29,10 +29,10 @@ use Rattle.porch_abstract.specs.declared.effects.Effect.TheVariants.{On, Set, Sh
 use Rattle.porch_abstract.specs.declared.phase.Phase.{Phase}
 use Rattle.porch_abstract.specs.declared.phase.Phase.TheVariants.{Begun, Running, Over}
 use Rattle.porch_abstract.specs.Machine.{Frame, running, State, Next, Goes, next, after, put, operand_of, determined, counted, resulted, onward, at_label, kind_in, operated, shown, returned, called}
-use Rattle.porch_abstract.specs.Effects as effects
-use Rattle.porch_abstract.specs.Effects.{given, operand_in, effect_of, effect_at, place_of, set_to}
-use Rattle.porch_abstract.specs.Kept.{value_of, main_frame, calls_alone, state_in, effected}
-use Rattle.porch_abstract.proofs.Stores.{objects_of, seen-vars, stored-vars, stored_vars, fresh_vars}
+use Rattle.porch_abstract.specs.inside.Effects as effects
+use Rattle.porch_abstract.specs.inside.Effects.{given, operand_in, effect_of, effect_at, place_of, set_to}
+use Rattle.porch_abstract.specs.inside.Kept.{value_of, main_frame, calls_alone, state_in, effected}
+use Rattle.porch_abstract.proofs.Stores.{seen-vars, stored-vars, fresh_vars}
 
 -- the program is one function of int variables
 pub record IsInts (flat : Flat) (main : Function) : Type 0 where

@@ -11,8 +11,8 @@ use Rattle.porch_flat.specs.Valid.{int_type}
 use Rattle.porch_objects.specs.Store.{Value, number, Object, Activation, Store, leaf_of, leaf_at, seen, with_leaf_at, with_leaves, changed_at, variable_home}
 use Rattle.porch_abstract.specs.declared.phase.Phase.TheVariants.{Running}
 use Rattle.porch_abstract.specs.Machine.{variables_with}
-use Rattle.porch_abstract.specs.Effects.{held}
-use Rattle.porch_abstract.specs.Kept.{value_of, int_object, calls_alone, store_in}
+use Rattle.porch_abstract.specs.inside.Effects.{held}
+use Rattle.porch_abstract.specs.inside.Kept.{value_of, int_object, calls_alone, store_in}
 
 abbrev pub objects_of : List (Option ℤ) → List Object
 objects_of vars = map int_object vars

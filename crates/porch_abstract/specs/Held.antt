@@ -1,5 +1,5 @@
 -- What contracts see of an abstract machine, and what a step of it answers.
-use Rattle.std.specs.Prelude.{ℕ, ◌≡◌, ◌<◌, ◌≤◌, List, [], ◌∷◌, length, slice_get, Result, Ok, Err, ⊤}
+use Rattle.std.specs.Prelude.{ℕ, ◌≡◌, ◌<◌, ◌≤◌, List, [], ◌∷◌, length, slice_get, Result, Ok, Err}
 use Rattle.std.specs.declared.alloc.AllocError.{AllocError}
 use Rattle.porch_objects.specs.Meaning.{Environment}
 use Rattle.porch_objects.specs.Store.{Activation, Store}

@@ -1,5 +1,7 @@
+-- The state of the flat abstract machine, and what a command does to it.
 pub mod Machine
+-- Runs, counted in steps, and what a program means; the laws of runs.
 pub mod Run
+-- What contracts see of an abstract machine, and what a step of it answers.
 pub mod Held
-pub mod Effects
-pub mod Kept
+pub mod inside

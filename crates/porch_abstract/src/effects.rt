@@ -4,7 +4,7 @@ ghost use Rattle.std.specs.Prelude.{◌≡◌, IsTrue};
 ghost use Rattle.porch_types.specs.declared.shapes.Kind.TheVariants.{Int};
 ghost use Rattle.porch_values.specs.Integers.{applied, in_range};
 ghost use Rattle.porch_objects.specs.Meaning.{truth, byte_of};
-ghost use Rattle.porch_abstract.specs.Effects.{IsInt, AreInts, operand_in, place_of, set_to, moved, operated, compared, shown, branched, ended, returned, effect_of};
+ghost use Rattle.porch_abstract.specs.inside.Effects.{IsInt, AreInts, operand_in, place_of, set_to, moved, operated, compared, shown, branched, ended, returned, effect_of};
 
 use porch_flat::{Command, Labels, Operand};
 use porch_types::Kind;

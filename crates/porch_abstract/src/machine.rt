@@ -25,7 +25,7 @@ pub struct Abstract {
 impl Model for Abstract {
     ghost use Rattle.porch_objects.specs.Meaning.{without_input};
     ghost use Rattle.porch_abstract.specs.Held.{Held};
-    ghost use Rattle.porch_abstract.specs.Kept.{state_of, IsCounted};
+    ghost use Rattle.porch_abstract.specs.inside.Kept.{state_of, IsCounted};
 
     ghost Value = { Held };
 

@@ -52,9 +52,9 @@ fn unset(alloc: Global, count: usize) -> Result<Vec<Option<i32>>, AllocError>
 }
 
 impl Run {
-    ghost use Rattle.porch_abstract.specs.Kept.{state_of, state_in, IsCounted, led_to};
+    ghost use Rattle.porch_abstract.specs.inside.Kept.{state_of, state_in, IsCounted, led_to};
     ghost use Rattle.porch_abstract.specs.Held.{Answers};
-    ghost use Rattle.porch_abstract.specs.Effects.{effect_at};
+    ghost use Rattle.porch_abstract.specs.inside.Effects.{effect_at};
     ghost use Rattle.porch_abstract.specs.Machine.{Goes};
     ghost use Rattle.porch_flat.specs.Labelled.{place_in};
     ghost use Rattle.porch_flat.specs.Places.{place_of_label};

@@ -1,5 +1,5 @@
 -- How a run of a valid program is kept, and which state it stands for: one frame, of ints. Only private contracts cite it.
-use Rattle.std.specs.Prelude.{ℕ, ◌≡◌, ◌<◌, ◌+◌, ℤ, pos, List, [], ◌∷◌, ◌++◌, length, map, slice_set, Option, Some, None, ⊤}
+use Rattle.std.specs.Prelude.{ℕ, ◌<◌, ◌+◌, ℤ, pos, List, [], ◌∷◌, ◌++◌, map, slice_set, Option, Some, None, ⊤}
 use Rattle.porch_objects.specs.Store.{Value, number, indeterminate, one_of, Object, Activation, Store, store_of}
 use Rattle.porch_flat.specs.Valid.{int_type}
 use Rattle.porch_abstract.specs.declared.effects.Effect.{Effect}

@@ -1,4 +1,4 @@
--- What a command does where all variables are ints, computed from their values. Only private contracts cite it; that it
+-- What a command does where all variables are ints, computed from their values. That it
 -- is what the machine does is proved.
 use Rattle.std.specs.Prelude.{ℕ, ℤ, pos, IsTrue, List, slice_get, unwrap_or, if◌then◌else◌, Option, Some, None, Result, Ok, Err, ⊤}
 use Rattle.std.specs.Ordering.{int_eq}
