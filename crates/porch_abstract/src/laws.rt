@@ -3,11 +3,16 @@
 ghost use Rattle.std.specs.Prelude.{ℕ};
 ghost use Rattle.porch_flat.specs.declared.flat.Flat.{Flat};
 ghost use Rattle.porch_objects.specs.Meaning.{Environment};
-ghost use Rattle.porch_abstract.specs.Run.{IsOneRun, TellsNothing};
+ghost use Rattle.porch_abstract.specs.Run.{IsOneRun, RunsEnd, TellsNothing};
 
 /// A run has one end, whatever the number of steps that is counted to, and a program one meaning.
 pub fn runs_have_one_end()
     ensures { (flat : Flat) (under : Environment) (n : ℕ) → IsOneRun flat under n }
+{}
+
+/// From each state, a run of a valid program comes to an end.
+pub fn runs_end()
+    ensures { RunsEnd }
 {}
 
 /// Where no step tells anything, a run tells nothing.

@@ -1,20 +1,18 @@
 -- The variables of a frame of ints as cells, and reads and writes of their objects.
 use Rattle.std.proofs.Common.{◌≡◌, ◌≢◌, ◌≤◌, ◌<◌, ◌+◌, ◌*ℤ◌, ◌+ℤ◌, ◌-ℤ◌, ℕ, zero, suc, ℤ, pos, List, [], ◌∷◌, map, length, inl, inr, refl, sym, ap, ◌∙◌, arith}
-use Rattle.std.proofs.Math.ListN.{set, get_or}
+use Rattle.std.proofs.Math.ListN.{set}
 use Rattle.std.proofs.Math.Seq.{set_out}
-use Rattle.std.proofs.lemmas.List.{map-set, length-map, get_or_past}
-use Rattle.std.proofs.lemmas.List.FromFn.{get_or-range_with_len, length-range_with_len}
+use Rattle.std.proofs.lemmas.List.{map-set, length-map}
 use Rattle.std.proofs.lemmas.Option.{slice_get-map, slice_get_past, slice_get_cases}
-use Rattle.std.specs.Prelude.{slice_get, slice_index_or, Some, None, Result, Ok, Err}
+use Rattle.std.specs.Prelude.{slice_get, replicate, Some, None, Result, Ok, Err}
 use Rattle.std.specs.declared.option.Option.{Option}
-use Rattle.std.specs.List.{range_with_len}
 use Rattle.porch_syntax.specs.declared.tree.Sign.{Sign}
 use Rattle.porch_syntax.specs.declared.tree.Sign.TheVariants.{Plus, Minus}
 use Rattle.porch_syntax.specs.Tree.{Node, variable, whole, character, nested, product, sum, less, Nodes, no_nodes, node, Terms, no_terms, term}
 use Rattle.porch_values.specs.declared.acts.Act.{Act}
 use Rattle.porch_values.specs.declared.acts.Act.TheVariants.{Indeterminate}
 use Rattle.porch_values.specs.Integers.{as_int_of}
-use Rattle.porch_objects.specs.Store.{Value, number, indeterminate, Object, seen, leaf_at, stored, forgotten, changed, with_leaf}
+use Rattle.porch_objects.specs.Store.{of_call, Value, number, indeterminate, one_of, Object, Activation, Store, seen, leaf_at, with_leaves, changed_at, with_leaf_at, forgotten}
 use Rattle.porch_objects.specs.Meaning.{truth}
 use Rattle.porch_flat.specs.Valid.{int_type}
 use Rattle.porch_flat.specs.declared.flat.Operand.{Operand}
@@ -29,7 +27,7 @@ value_in None = indeterminate
 value_in (Some z) = number z
 
 abbrev pub int_object : Value → Object
-int_object v = record { root = record { ty = int_type; count = 1 }; alive = Rattle.std.proofs.Common.true; leaves = v ∷ [] }
+int_object v = record { root = one_of int_type; leaves = v ∷ [] }
 
 abbrev pub object_in : Cell → Object
 object_in c = int_object (value_in c)
@@ -77,52 +75,44 @@ abbrev mutual
   terms_of cells no_terms a = Ok a
   terms_of cells (term sign e ts) a = with_value (value_of cells e) (λ b. with_value (as_int_of (signed sign a b)) (λ c. terms_of cells ts c))
 
--- the objects of k variables are the first k
-abbrev pub frame_of : ℕ → List ℕ
-frame_of k = range_with_len 0 k
+-- what lives while main runs with these variables: it is the first call
+abbrev pub store_in : List Object → Store
+store_in variables =
+    record { globals = []; calls = (let call : Activation = record { number = 0; variables = variables } in call ∷ []); blocks = []; called = 1; allocated = 0; checkpoints = 0 }
 
--- the number of a variable's object, among the objects of the cells
-abbrev pub place_of : ℕ → List Cell → ℕ → ℕ
-place_of k cells x = slice_index_or (frame_of k) x (length (map object_in cells))
+abbrev pub store_with : List Cell → Store
+store_with cells = store_in (map object_in cells)
 
-module _ (k : ℕ) (cells : List Cell) (e : length cells ≡ k) (x : ℕ) where
-  place_inside : x < length cells → place_of k cells x ≡ x
-  place_inside h = get_or-range_with_len 0 k x (length (map object_in cells)) (omega arith) ∙ omega arith
+module _ (cells : List Cell) (x : ℕ) where
+  none_outside : length cells ≤ x → slice_get (map object_in cells) x ≡ None
+  none_outside h = slice_get_past (map object_in cells) x (omega (arith, length-map cells object_in))
 
-  place_outside : length cells ≤ x → place_of k cells x ≡ length cells
-  place_outside h =
-      let past : length (range_with_len 0 k) ≤ x = omega (arith, length-range_with_len 0 k) in
-      get_or_past (range_with_len 0 k) x (length (map object_in cells)) past ∙ length-map cells object_in
-
-  none_outside : slice_get (map object_in cells) (length cells) ≡ None
-  none_outside = slice_get_past (map object_in cells) (length cells) (omega (arith, length-map cells object_in))
-
-  pub leaf_at-cells : leaf_at (map object_in cells) (place_of k cells x) 0 ≡ value_at (slice_get cells x)
+  pub leaf_at-cells : leaf_at (store_with cells) (of_call 0 x) 0 ≡ value_at (slice_get cells x)
   leaf_at-cells =
       elim (slice_get_cases cells x).1 [
-        | inl w ↦ rw (place_inside w.1, slice_get-map object_in cells x, w.2) refl
-        | inr w ↦ rw (place_outside w.0, none_outside, w.1) refl
+        | inl w ↦ rw (slice_get-map object_in cells x, w.2) refl
+        | inr w ↦ rw (none_outside w.0, w.1) refl
       ]
 
   changed-cells : (f : Object → Object) (c : Cell) → ((d : Cell) → f (object_in d) ≡ object_in c)
-      → changed f (map object_in cells) (slice_get (map object_in cells) (place_of k cells x)) (place_of k cells x) ≡ map object_in (set cells x c)
+      → changed_at f (map object_in cells) (slice_get (map object_in cells) x) x ≡ map object_in (set cells x c)
   changed-cells f c h =
       elim (slice_get_cases cells x).1 [
-        | inl w ↦ rw (place_inside w.1, slice_get-map object_in cells x, w.2, h w.0) (sym (map-set object_in cells x c))
-        | inr w ↦ rw (place_outside w.0, none_outside, set_out cells x c w.0) refl
+        | inl w ↦ rw (slice_get-map object_in cells x, w.2, h w.0) (sym (map-set object_in cells x c))
+        | inr w ↦ rw (none_outside w.0, set_out cells x c w.0) refl
       ]
 
-  pub stored-cells : (z : ℤ) → stored (map object_in cells) (place_of k cells x) 0 (number z) ≡ map object_in (set cells x (Some z))
-  stored-cells z = changed-cells (λ object. with_leaf object 0 (number z)) (Some z) (λ d. refl)
+  pub stored-cells : (z : ℤ) → with_leaf_at (store_with cells) (of_call 0 x) 0 (number z) ≡ store_with (set cells x (Some z))
+  stored-cells z = ap store_in (changed-cells (λ object. with_leaves object (set object.leaves 0 (number z))) (Some z) (λ d. refl))
 
-  pub forgotten-cells : forgotten (map object_in cells) (place_of k cells x) ≡ map object_in (set cells x None)
-  forgotten-cells = changed-cells _ None (λ d. refl)
+  pub forgotten-cells : forgotten (store_with cells) (of_call 0 x) ≡ store_with (set cells x None)
+  forgotten-cells = ap store_in (changed-cells (λ object. with_leaves object (replicate (length object.leaves) indeterminate)) None (λ d. refl))
 
 -- a cell's value is seen as it is, for it is no pointer
-pub seen-cell : (objects : List Object) (c : Option Cell) → seen objects (value_at c) ≡ value_at c
-seen-cell objects None = refl
-seen-cell objects (Some None) = refl
-seen-cell objects (Some (Some z)) = refl
+pub seen-cell : (s : Store) (c : Option Cell) → seen s (value_at c) ≡ value_at c
+seen-cell s None = refl
+seen-cell s (Some None) = refl
+seen-cell s (Some (Some z)) = refl
 
 -- a cell that was written, and the others
 pub slice_get-set_same : (xs : List Cell) (i : ℕ) (c : Cell) → i < length xs → slice_get (set xs i c) i ≡ Some c

@@ -8,24 +8,22 @@ use Rattle.std.specs.declared.option.Option.{Option}
 use Rattle.porch_types.specs.Leaves.{kind_types}
 use Rattle.porch_syntax.specs.Tree.{Node, Program}
 use Rattle.porch_values.specs.declared.acts.Act.{Act}
-use Rattle.porch_values.specs.declared.widths.Widths.{Widths}
-use Rattle.porch_objects.specs.Store.{Value, Mark, Object, Root, fresh}
-use Rattle.porch_objects.specs.Meaning.{Meaning, Ended}
-use Rattle.porch_meaning.specs.State as meaning
-use Rattle.porch_meaning.specs.Mean.{Outcome, Went, Gave, Undefined, Stopped, and_then, done, set, declare, acts, with_objects, back as left_main, meaning_of, mean}
+use Rattle.porch_objects.specs.Store.{Value, one_of, Object, Store, fresh}
+use Rattle.porch_objects.specs.Meaning.{Environment, Mark, Progress, with_store, Meaning, Ended}
+use Rattle.porch_meaning.specs.Mean.{Outcome, Went, Gave, Undefined, Stopped, and_then, done, set, declare, acts, roots_of, back as left_main, meaning_of, mean}
 use Rattle.porch_flat.specs.declared.flat.Operand.TheVariants.{Constant}
 use Rattle.porch_flat.specs.declared.flat.Command.{Command}
 use Rattle.porch_flat.specs.declared.flat.Command.TheVariants as command
 use Rattle.porch_flat.specs.declared.flat.Function.{Function}
 use Rattle.porch_flat.specs.Places.{place_of_label}
 use Rattle.porch_flat.specs.Valid.{int_type}
-use Rattle.porch_abstract.specs.Machine.{State, Next, Goes, Ends, Meets, next}
-use Rattle.porch_abstract.specs.Run.{begin, marks_to, marks_then, Means}
+use Rattle.porch_abstract.specs.Machine.{State, Next, Goes, Ends, Meets, begin, variables_with, next}
+use Rattle.porch_abstract.specs.Run.{marks_of, is_paused, Means, TellsNothing}
 use Rattle.porch_lower.specs.Code.{into_code, declarations_code, actions_code, main_code, declarations_temps, main_temps, main_function, flat_of}
 use Rattle.porch_lower.specs.Lowered.{IsLowerable, DeclarationsFit, MeansTheSame}
-use Rattle.porch_lower.proofs.SameCells.{Cell, object_in, value_of, frame_of, stored-cells, forgotten-cells, slice_get-set_other}
+use Rattle.porch_lower.proofs.SameCells.{Cell, object_in, value_of, store_with, stored-cells, forgotten-cells, slice_get-set_other}
 use Rattle.porch_lower.proofs.SameMean.{source, evaluates, set-same}
-use Rattle.porch_lower.proofs.StepsRun.{EndsWith, over, stays, comes, step_goes, step_ends, step_over}
+use Rattle.porch_lower.proofs.StepsRun.{EndsWith, stays, comes, step_goes, step_ends, step_over}
 use Rattle.porch_lower.proofs.StepsAt.{program_of, at, next_is, gives, left, left-output, left-turns}
 use Rattle.porch_lower.proofs.ThroughParts.{Stands, front, back, Agrees, Reaches, calm}
 use Rattle.porch_lower.proofs.ThroughExpr.{through}
@@ -59,16 +57,16 @@ length-copies : {A : Type 0} (k : ℕ) (x : A) → length (replicate k x) ≡ k
 length-copies zero x = refl
 length-copies (suc k) x = ap suc (length-copies k x)
 
--- the objects of a call: none has a value
-fresh_vars : (k : ℕ) → map (fresh kind_types) (map (λ (ty : ℕ). let root : Root = record { ty = ty; count = 1 } in root) (replicate k int_type)) ≡ map object_in (replicate k None)
+-- the variables of a call: none has a value
+fresh_vars : (k : ℕ) → variables_with kind_types (replicate k int_type) [] ≡ map object_in (replicate k None)
 fresh_vars zero = refl
 fresh_vars (suc k) = ap (λ (objects : List Object). object_in None ∷ objects) (fresh_vars k)
 
-fresh_declared : (ds : List (Option Node)) → map (fresh kind_types) (map (λ _. let root : Root = record { ty = int_type; count = 1 } in root) ds) ≡ map object_in (replicate (length ds) None)
+fresh_declared : (ds : List (Option Node)) → map (fresh kind_types) (map (λ _. one_of int_type) ds) ≡ map object_in (replicate (length ds) None)
 fresh_declared [] = refl
 fresh_declared (d ∷ ds) = ap (λ (objects : List Object). object_in None ∷ objects) (fresh_declared ds)
 
-module _ (p : Program) (ok : IsLowerable p) (homes : (q l : ℕ) → slice_get (main_code p) q ≡ Some (command.Label l) → place_of_label (main_code p) l ≡ Some q) (w : Widths) (n : ℕ) where
+module _ (silent : TellsNothing) (p : Program) (ok : IsLowerable p) (homes : (q l : ℕ) → slice_get (main_code p) q ≡ Some (command.Label l) → place_of_label (main_code p) l ≡ Some q) (under : Environment) (n : ℕ) where
   abbrev f : Function
   f = main_function p
 
@@ -85,102 +83,87 @@ module _ (p : Program) (ok : IsLowerable p) (homes : (q l : ℕ) → slice_get (
   ints v h = index-replicate k v (length kind_types) (omega (arith, sized))
 
   abbrev follows : ℕ → Outcome → State → ℕ → Type 0
-  follows = Follows f w n k m []
+  follows = Follows f under n k m []
 
   -- The variables from number x on have no value yet, and the declarations from there on are gone through.
   declared_by : (x p q : ℕ) (e : Node) (more : List (Option Node)) (us cells : List Cell) (output : List ℕ) (turns : ℕ) (us_sized : length us ≡ m) (cells_sized : length cells ≡ k) (agrees : Agrees us cells) (within : turns ≤ n)
-      → x < m → (r : Result ℤ Act) → value_of us e ≡ r → Reaches f w n output turns k m x cells (at k p cells output turns) q r → (q' : ℕ)
-      → ((us' cells' : List Cell) → length us' ≡ m → length cells' ≡ k → Agrees us' cells' → ((y : ℕ) → x < y → slice_get us' y ≡ slice_get us y) → follows turns (declare w n (frame_of m) (x + 1) more (source us' output [] turns)) (at k q cells' output turns) q')
-      → follows turns (and_then (set w n (frame_of m) x e (source us output [] turns)) (λ _ s. declare w n (frame_of m) (x + 1) more s)) (at k p cells output turns) q'
+      → x < m → (r : Result ℤ Act) → value_of us e ≡ r → Reaches f under n output turns k m x cells (at p cells output turns) q r → (q' : ℕ)
+      → ((us' cells' : List Cell) → length us' ≡ m → length cells' ≡ k → Agrees us' cells' → ((y : ℕ) → x < y → slice_get us' y ≡ slice_get us y) → follows turns (declare under n 0 (x + 1) more (source us' output [] turns)) (at q cells' output turns) q')
+      → follows turns (and_then (set under n 0 x e (source us output [] turns)) (λ _ s. declare under n 0 (x + 1) more s)) (at p cells output turns) q'
   declared_by x p q e more us cells output turns us_sized cells_sized agrees within inside (Ok z) is reached q' next_ones =
       let after = list_set us x (Some z) in
-      let meant : set w n (frame_of m) x e (source us output [] turns) ≡ done (source after output [] turns) =
-      rw (evaluates w n m us us_sized output [] turns e, is) (ap (λ (objects : List Object). done (with_objects (source us output [] turns) objects)) (stored-cells m us us_sized x z)) in
-      rw meant (follows_from f w n k m [] turns _ (at k p cells output turns) (at k q reached.0 output turns) q' reached.2
+      let meant : set under n 0 x e (source us output [] turns) ≡ done (source after output [] turns) =
+      rw (evaluates under n us output [] turns e, is) (ap (λ (store : Store). done (with_store (source us output [] turns) store)) (stored-cells us x z)) in
+      rw meant (follows_from f under n k m [] turns _ (at p cells output turns) (at q reached.0 output turns) q' reached.2
       (next_ones after reached.0 (length-set us x (Some z) ∙ us_sized) (reached.1.same_length ∙ cells_sized) (agrees-set us cells reached.0 m x z us_sized inside agrees reached.1)
       (λ y above. slice_get-set_other us x y (Some z) (λ e. absurd (omega arith)))))
   declared_by x p q e more us cells output turns us_sized cells_sized agrees within inside (Err a) is reached q' next_ones =
-      let meant : set w n (frame_of m) x e (source us output [] turns) ≡ Undefined a (source us output [] turns) = rw (evaluates w n m us us_sized output [] turns e, is) refl in
+      let meant : set under n 0 x e (source us output [] turns) ≡ Undefined a (source us output [] turns) = rw (evaluates under n us output [] turns e, is) refl in
       rw meant (refl, reached)
 
   declares : (ds : List (Option Node)) (x q : ℕ) → x + length ds ≡ m → DeclarationsFit m ds → m + declarations_temps ds ≤ k → Stands (main_code p) q (declarations_code m x ds)
       → (us cells : List Cell) (output : List ℕ) (turns : ℕ) → length us ≡ m → length cells ≡ k → Agrees us cells → turns ≤ n → ((y : ℕ) → x ≤ y → y < m → slice_get us y ≡ Some None)
-      → follows turns (declare w n (frame_of m) x ds (source us output [] turns)) (at k q cells output turns) (q + length (declarations_code m x ds))
+      → follows turns (declare under n 0 x ds (source us output [] turns)) (at q cells output turns) (q + length (declarations_code m x ds))
   declares [] x q all fit room stands us cells output turns us_sized cells_sized agrees within unset =
-      rw (add-zero q) (record { us = us; cells = cells; output = output; turns = turns; is = refl; us_sized = us_sized; cells_sized = cells_sized; agrees = agrees; later = omega arith; within = within; onward = stays (program_of f) w n (at k q cells output turns) })
+      rw (add-zero q) (record { us = us; cells = cells; output = output; turns = turns; is = refl; us_sized = us_sized; cells_sized = cells_sized; agrees = agrees; later = omega arith; within = within; onward = stays (program_of f) under n (at q cells output turns) })
   declares (None ∷ more) x q all fit room stands us cells output turns us_sized cells_sized agrees within unset =
-      let unchanged = forgotten-cells m us us_sized x ∙ ap (map object_in) (set-same us x None (unset x (omega arith) (omega arith))) in
+      let unchanged = forgotten-cells us x ∙ ap store_with (set-same us x None (unset x (omega arith) (omega arith))) in
       rw unchanged (declares more (x + 1) q (omega arith) fit room stands us cells output turns us_sized cells_sized agrees within (λ y above below. unset y (omega arith) below))
   declares ((Some e) ∷ more) x q all fit room stands us cells output turns us_sized cells_sized agrees within unset =
-      let unchanged = forgotten-cells m us us_sized x ∙ ap (map object_in) (set-same us x None (unset x (omega arith) (omega arith))) in
+      let unchanged = forgotten-cells us x ∙ ap store_with (set-same us x None (unset x (omega arith) (omega arith))) in
       let xs = into_code e x m in
       let ys = declarations_code m (x + 1) more in
       let ends : q + length (xs ++ ys) ≡ q + length xs + length ys = simp length-append (omega arith) in
       rw (unchanged, ends)
       (declared_by x q (q + length xs) e more us cells output turns us_sized cells_sized agrees within (omega arith) (value_of us e) refl
-      (through f w n output turns k sized ints us e x m (rw us_sized fit.0) (omega arith) (omega arith) (omega arith) q cells cells_sized agrees (front (main_code p) q xs ys stands))
+      (through f under n output turns k sized ints us e x m (rw us_sized fit.0) (omega arith) (omega arith) (omega arith) q cells cells_sized agrees (front (main_code p) q xs ys stands))
       (q + length xs + length ys)
       (λ us' cells' us_sized' cells_sized' agrees' same. declares more (x + 1) (q + length xs) (omega arith) fit.1 (omega arith) (back (main_code p) q xs ys stands) us' cells' output turns us_sized' cells_sized' agrees' within
       (λ y above below. same y (omega arith) ∙ unset y (omega arith) below)))
 
   -- the run from a state has what is said
   pub record IsSaid (from : State) (said : Meaning) : Type 0 where
-    pub ends : EndsWith (program_of f) w n from said.output said.turns said.ending
+    pub ends : EndsWith (program_of f) under n from said.output said.turns said.ending
     pub marks_are : said.marks ≡ []
 
   -- behind the last statement main gives 0
-  ended : (frame : List ℕ) (o : Outcome) (since q : ℕ) (from : State) → slice_get (main_code p) q ≡ Some (command.Return (Some (Constant (pos 0)))) → follows since o from q → IsSaid from (meaning_of (left_main frame o))
-  ended frame (Went v s) since q from h g =
-      let stop : next (program_of f) w (at k q g.cells g.output g.turns) ≡ Ends (pos 0) (left f w g.cells g.output g.turns k g.cells_sized q) =
-      next_is f w g.cells g.output g.turns k g.cells_sized q (command.Return (Some (Constant (pos 0)))) h ∙ gives f w g.cells g.output g.turns k g.cells_sized q (Constant (pos 0)) in
-      let last = step_ends (program_of f) w n (at k q g.cells g.output g.turns) (left f w g.cells g.output g.turns k g.cells_sized q) (pos 0) (calm f w n g.output g.turns k q g.cells (command.Return (Some (Constant (pos 0)))) h refl) stop in
-      let last' = rw (left-output f w g.cells g.output g.turns k g.cells_sized q, left-turns f w g.cells g.output g.turns k g.cells_sized q) at last in
-      let P : meaning.State → Type 0 = λ s. IsSaid from (meaning_of (left_main frame (Went v s))) in
-      subst P (sym g.is) (record { ends = comes (program_of f) w n from (at k q g.cells g.output g.turns) g.output g.turns (Ended (pos 0)) g.onward last'; marks_are = refl })
-  ended frame (Gave v s) since q from h g =
-      let P : Value → Type 0 = λ v. IsSaid from (meaning_of (left_main frame (Gave v s))) in
+  ended : (o : Outcome) (since q : ℕ) (from : State) → slice_get (main_code p) q ≡ Some (command.Return (Some (Constant (pos 0)))) → follows since o from q → IsSaid from (meaning_of (left_main o))
+  ended (Went v s) since q from h g =
+      let stop : next (program_of f) under (at q g.cells g.output g.turns) ≡ Ends (pos 0) (left f under g.cells g.output g.turns q) =
+      next_is f under g.cells g.output g.turns q (command.Return (Some (Constant (pos 0)))) h ∙ gives f under g.cells g.output g.turns q (Constant (pos 0)) in
+      let last = step_ends (program_of f) under n (at q g.cells g.output g.turns) (left f under g.cells g.output g.turns q) (pos 0) (calm f under n g.output g.turns k q g.cells (command.Return (Some (Constant (pos 0)))) h refl) stop in
+      let last' = rw (left-output f under g.cells g.output g.turns q, left-turns f under g.cells g.output g.turns q) at last in
+      let P : Progress → Type 0 = λ s. IsSaid from (meaning_of (left_main (Went v s))) in
+      subst P (sym g.is) (record { ends = comes (program_of f) under n from (at q g.cells g.output g.turns) g.output g.turns (Ended (pos 0)) g.onward last'; marks_are = refl })
+  ended (Gave v s) since q from h g =
+      let P : Value → Type 0 = λ v. IsSaid from (meaning_of (left_main (Gave v s))) in
       subst P (sym g.1) (record { ends = g.3; marks_are = g.2 })
-  ended frame (Undefined a s) since q from h g = record { ends = g.1; marks_are = g.0 }
-  ended frame (Stopped s) since q from h g = record { ends = g.1; marks_are = g.0 }
+  ended (Undefined a s) since q from h g = record { ends = g.1; marks_are = g.0 }
+  ended (Stopped s) since q from h g = record { ends = g.1; marks_are = g.0 }
 
-  -- no command makes a mark
-  no_marks_then : (j : ℕ) (r : Next) → ((s : State) → marks_to (program_of f) w n j s ≡ []) → marks_then (program_of f) w n r (λ s. marks_to (program_of f) w n j s) ≡ []
-  no_marks_then j (Goes s) g = g s
-  no_marks_then j (Ends z s) g = refl
-  no_marks_then j (Meets a) g = refl
-
-  no_marks_if : (b : Bool) (xs : List Mark) → xs ≡ [] → (if b then [] else xs) ≡ []
-  no_marks_if true xs h = refl
-  no_marks_if false xs h = h
-
-  no_marks : (j : ℕ) (s : State) → marks_to (program_of f) w n j s ≡ []
-  no_marks zero s = refl
-  no_marks (suc j) s = no_marks_if (over (program_of f) w n s) (marks_then (program_of f) w n (next (program_of f) w s) (λ to. marks_to (program_of f) w n j to)) (no_marks_then j (next (program_of f) w s) (λ to. no_marks j to))
-
-  means_said : (input : List ℕ) (said : Meaning) → IsSaid begin said → Means (flat_of p) w n input said
-  means_said input said h = record {
+  means_said : (said : Meaning) → IsSaid (begin (flat_of p)) said → Means (flat_of p) under n said
+  means_said said h = record {
     steps = h.ends.steps;
     last = h.ends.last;
     ends = h.ends.ends;
     output_is = sym h.ends.output_is;
     turns_are = sym h.ends.turns_are;
-    marks_are = h.marks_are ∙ sym (no_marks h.ends.steps begin);
+    marks_are = h.marks_are ∙ sym (silent (flat_of p) under n h.ends.steps marks_of (begin (flat_of p)) (λ s command. refl));
   }
 
   -- the state behind the call of main
   abbrev called : State
-  called = at k 0 (replicate k None) [] 1
+  called = at 0 (replicate k None) [] 1
 
-  called_is : next (program_of f) w begin ≡ Goes called
+  called_is : next (program_of f) under (begin (flat_of p)) ≡ Goes called
   called_is =
       let objects_are = fresh_vars k in
-      let count : length (map (λ (ty : ℕ). let root : Root = record { ty = ty; count = 1 } in root) (replicate k int_type)) ≡ k = length-map _ _ ∙ length-copies k int_type in
-      rw (objects_are, count) refl
+      rw objects_are refl
 
   abbrev block : Outcome
-  block = and_then (declare w n (frame_of m) 0 p.declarations (source (replicate m None) [] [] 1)) (λ _ s. acts w n (frame_of m) p.actions s)
+  block = and_then (declare under n 0 0 p.declarations (source (replicate m None) [] [] 1)) (λ _ s. acts under n 0 p.actions s)
 
-  block_follows : 1 ≤ n → IsSaid called (meaning_of (left_main (frame_of m) block))
+  block_follows : 1 ≤ n → IsSaid called (meaning_of (left_main block))
   block_follows some =
       let xs = declarations_code m 0 p.declarations in
       let ys = actions_code m (length xs) p.actions in
@@ -195,22 +178,22 @@ module _ (p : Program) (ok : IsLowerable p) (homes : (q l : ℕ) → slice_get (
       let agrees : Agrees (replicate m None) (replicate k None) = record { same = λ x h. slice_get-replicate m x None (omega arith) ∙ sym (slice_get-replicate k x None (omega arith)) } in
       let one = declares p.declarations 0 0 (omega arith) ok.declared (omega arith) (front (main_code p) 0 xs (ys ++ last) all) (replicate m None) (replicate k None) [] 1 us_sized cells_sized agrees some (λ y above below. slice_get-replicate m y None below) in
       let one' = rw zero_place at one in
-      ended (frame_of m) block 1 (length xs + length ys) called end.0
-      (follows_then f w n k m [] 1 _ called (length xs) (length xs + length ys) (λ s. acts w n (frame_of m) p.actions s) one'
-      (λ us cells output turns us_sized cells_sized agrees later within. acts_through f w n k m [] sized ints homes p.actions (length xs) ok.stated (omega arith) (front (main_code p) (length xs) ys last rest') us cells output turns us_sized cells_sized agrees within))
+      ended block 1 (length xs + length ys) called end.0
+      (follows_then f under n k m [] 1 _ called (length xs) (length xs + length ys) (λ s. acts under n 0 p.actions s) one'
+      (λ us cells output turns us_sized cells_sized agrees later within. acts_through f under n k m [] sized ints homes p.actions (length xs) ok.stated (omega arith) (front (main_code p) (length xs) ys last rest') us cells output turns us_sized cells_sized agrees within))
 
-  means_by : (b : Bool) → nat_eq 0 n ≡ b → (input : List ℕ) → Means (flat_of p) w n input (mean kind_types p w n input)
-  means_by true is input =
-      let over_there : over (program_of f) w n begin ≡ true = grind (arith, nat_tests) in
-      let said = step_over (program_of f) w n begin over_there in
-      rw is (means_said input _ (record { ends = said; marks_are = refl }))
-  means_by false is input =
+  means_by : (b : Bool) → nat_eq 0 n ≡ b → Means (flat_of p) under n (mean kind_types p under n)
+  means_by true is =
+      let over_there : is_paused (program_of f) under n (begin (flat_of p)) ≡ true = grind (arith, nat_tests) in
+      let said = step_over (program_of f) under n (begin (flat_of p)) over_there in
+      rw is (means_said _ (record { ends = said; marks_are = refl }))
+  means_by false is =
       let some : 1 ≤ n = grind (arith, nat_tests) in
-      let not_over : over (program_of f) w n begin ≡ false = grind (arith, nat_tests) in
-      let on = step_goes (program_of f) w n begin called not_over called_is in
+      let not_over : is_paused (program_of f) under n (begin (flat_of p)) ≡ false = grind (arith, nat_tests) in
+      let on = step_goes (program_of f) under n (begin (flat_of p)) called not_over called_is in
       let there = block_follows some in
       let declared_objects = fresh_declared p.declarations in
-      rw (is, declared_objects) (means_said input _ (record { ends = comes (program_of f) w n begin called _ _ _ on there.ends; marks_are = there.marks_are }))
+      rw (is, declared_objects) (means_said _ (record { ends = comes (program_of f) under n (begin (flat_of p)) called _ _ _ on there.ends; marks_are = there.marks_are }))
 
-pub same : (p : Program) → IsLowerable p → ((q l : ℕ) → slice_get (main_code p) q ≡ Some (command.Label l) → place_of_label (main_code p) l ≡ Some q) → MeansTheSame p (flat_of p)
-same p ok homes w n input = means_by p ok homes w n (nat_eq 0 n) refl input
+pub same : TellsNothing → (p : Program) → IsLowerable p → ((q l : ℕ) → slice_get (main_code p) q ≡ Some (command.Label l) → place_of_label (main_code p) l ≡ Some q) → MeansTheSame p (flat_of p)
+same silent p ok homes under n = means_by silent p ok homes under n (nat_eq 0 n) refl

@@ -6,18 +6,18 @@ use Rattle.std.specs.Prelude.{slice_get, is_some, Some, None, Result, Ok, Err}
 use Rattle.std.specs.declared.option.Option.{Option}
 use Rattle.porch_syntax.specs.Tree.{Node, variable, whole, character, nested, product, sum, less}
 use Rattle.porch_values.specs.declared.acts.Act.{Act}
-use Rattle.porch_values.specs.declared.widths.Widths.{Widths}
-use Rattle.porch_objects.specs.Meaning.{Met}
+use Rattle.porch_objects.specs.Meaning.{Environment, Met}
 use Rattle.porch_flat.specs.declared.flat.Operand.{Operand}
 use Rattle.porch_flat.specs.declared.flat.Operand.TheVariants.{Var, Constant}
 use Rattle.porch_flat.specs.declared.flat.Command.{Command}
 use Rattle.porch_flat.specs.declared.flat.Function.{Function}
 use Rattle.porch_abstract.specs.Machine.{State, Next, Goes, next}
-use Rattle.porch_abstract.specs.Run.{counts}
+use Rattle.porch_flat.specs.Parts.{counts}
+use Rattle.porch_abstract.specs.Run.{is_paused}
 use Rattle.porch_lower.specs.Code.{atom_of, is_atom, operand_or, operand_in, commands_or, left_operand, left_commands, into_code}
 use Rattle.porch_lower.specs.Lowered.{IsFit}
 use Rattle.porch_lower.proofs.SameCells.{Cell, read_of, reads, with_value, value_of, slice_get-set_same, slice_get-set_other}
-use Rattle.porch_lower.proofs.StepsRun.{GoesOn, EndsWith, over, stays, chain, comes, step_goes, step_meets}
+use Rattle.porch_lower.proofs.StepsRun.{GoesOn, EndsWith, stays, chain, comes, step_goes, step_meets}
 use Rattle.porch_lower.proofs.StepsAt.{program_of, at, by_read, does, next_is}
 
 -- these commands stand from this place on
@@ -122,16 +122,16 @@ flattened (Ok x) (Ok y) go more = refl
 flattened (Ok x) (Err b) go more = refl
 flattened (Err a) s go more = refl
 
-module _ (f : Function) (w : Widths) (n : ℕ) (output : List ℕ) (turns : ℕ) (k : ℕ) where
+module _ (f : Function) (under : Environment) (n : ℕ) (output : List ℕ) (turns : ℕ) (k : ℕ) where
   -- a state of the run, and what it goes on to
   abbrev pub here : ℕ → List Cell → State
-  here p cells = at k p cells output turns
+  here p cells = at p cells output turns
 
   abbrev pub Onward : State → State → Type 0
-  Onward = GoesOn (program_of f) w n
+  Onward = GoesOn (program_of f) under n
 
   abbrev pub Halts : State → Act → Type 0
-  Halts s a = EndsWith (program_of f) w n s output turns (Met a)
+  Halts s a = EndsWith (program_of f) under n s output turns (Met a)
 
   -- The run from a state: with a value it comes to a place where that was written to d, and what is below b is as in `ref`.
   abbrev pub Reaches : ℕ → ℕ → List Cell → State → ℕ → Result ℤ Act → Type 0
@@ -148,41 +148,41 @@ module _ (f : Function) (w : Widths) (n : ℕ) (output : List ℕ) (turns : ℕ)
   Through us e d t = (p : ℕ) (cells : List Cell) → length cells ≡ k → Agrees us cells → Stands f.commands p (into_code e d t)
       → Reaches t d cells (here p cells) (p + length (into_code e d t)) (value_of us e)
 
-  pub calm : (p : ℕ) (cells : List Cell) (c : Command) → slice_get f.commands p ≡ Some c → counts (Some c) ≡ false → over (program_of f) w n (here p cells) ≡ false
+  pub calm : (p : ℕ) (cells : List Cell) (c : Command) → slice_get f.commands p ≡ Some c → counts (Some c) ≡ false → is_paused (program_of f) under n (here p cells) ≡ false
   calm p cells c h silent = rw (h, silent) refl
 
   -- one command that reads a number and goes on
-  pub read_goes : (p : ℕ) (cells : List Cell) (c : Command) (r : Result ℤ Act) (z : ℤ) (to : ℤ → State) (e : length cells ≡ k) → slice_get f.commands p ≡ Some c → counts (Some c) ≡ false
-      → does f w cells output turns k e p c ≡ by_read r (λ z. Goes (to z)) → r ≡ Ok z → Onward (here p cells) (to z)
-  read_goes p cells c r z to e h silent does-is is =
-      step_goes (program_of f) w n (here p cells) (to z) (calm p cells c h silent) (next_is f w cells output turns k e p c h ∙ does-is ∙ ap (λ (r : Result ℤ Act). by_read r (λ z. Goes (to z))) is)
+  pub read_goes : (p : ℕ) (cells : List Cell) (c : Command) (r : Result ℤ Act) (z : ℤ) (to : ℤ → State) → slice_get f.commands p ≡ Some c → counts (Some c) ≡ false
+      → does f under cells output turns p c ≡ by_read r (λ z. Goes (to z)) → r ≡ Ok z → Onward (here p cells) (to z)
+  read_goes p cells c r z to h silent does-is is =
+      step_goes (program_of f) under n (here p cells) (to z) (calm p cells c h silent) (next_is f under cells output turns p c h ∙ does-is ∙ ap (λ (r : Result ℤ Act). by_read r (λ z. Goes (to z))) is)
 
-  pub read_halts : (p : ℕ) (cells : List Cell) (c : Command) (r : Result ℤ Act) (a : Act) (to : ℤ → State) (e : length cells ≡ k) → slice_get f.commands p ≡ Some c → counts (Some c) ≡ false
-      → does f w cells output turns k e p c ≡ by_read r (λ z. Goes (to z)) → r ≡ Err a → Halts (here p cells) a
-  read_halts p cells c r a to e h silent does-is is =
-      step_meets (program_of f) w n (here p cells) a (calm p cells c h silent) (next_is f w cells output turns k e p c h ∙ does-is ∙ ap (λ (r : Result ℤ Act). by_read r (λ z. Goes (to z))) is)
+  pub read_halts : (p : ℕ) (cells : List Cell) (c : Command) (r : Result ℤ Act) (a : Act) (to : ℤ → State) → slice_get f.commands p ≡ Some c → counts (Some c) ≡ false
+      → does f under cells output turns p c ≡ by_read r (λ z. Goes (to z)) → r ≡ Err a → Halts (here p cells) a
+  read_halts p cells c r a to h silent does-is is =
+      step_meets (program_of f) under n (here p cells) a (calm p cells c h silent) (next_is f under cells output turns p c h ∙ does-is ∙ ap (λ (r : Result ℤ Act). by_read r (λ z. Goes (to z))) is)
 
   -- an operator's command
   pub record IsOperator (c : Command) (v : ℕ) (left right : Operand) (go : ℤ → ℤ → Result ℤ Act) : Type 0 where
     pub calm : counts (Some c) ≡ false
-    pub does_is : (p : ℕ) (cells : List Cell) (e : length cells ≡ k)
-        → does f w cells output turns k e p c ≡ by_read (reads cells left) (λ x. by_read (reads cells right) (λ y. by_read (go x y) (λ z. Goes (here (p + 1) (set cells v (Some z))))))
+    pub does_is : (p : ℕ) (cells : List Cell)
+        → does f under cells output turns p c ≡ by_read (reads cells left) (λ x. by_read (reads cells right) (λ y. by_read (go x y) (λ z. Goes (here (p + 1) (set cells v (Some z))))))
 
-  operator_by : (p : ℕ) (cells : List Cell) (b v : ℕ) (c : Command) (left right : Operand) (go : ℤ → ℤ → Result ℤ Act) (r : Result ℤ Act) → IsOperator c v left right go → length cells ≡ k
+  operator_by : (p : ℕ) (cells : List Cell) (b v : ℕ) (c : Command) (left right : Operand) (go : ℤ → ℤ → Result ℤ Act) (r : Result ℤ Act) → IsOperator c v left right go
       → slice_get f.commands p ≡ Some c → with_value (reads cells left) (λ x. with_value (reads cells right) (λ y. go x y)) ≡ r → Operates b v cells (here p cells) (p + 1) r
-  operator_by p cells b v c left right go (Ok z) is e h value =
-      (cells, kept-refl b cells, read_goes p cells c _ z (λ z. here (p + 1) (set cells v (Some z))) e h is.calm (is.does_is p cells e ∙ flattened (reads cells left) (reads cells right) go _) value)
-  operator_by p cells b v c left right go (Err a) is e h value =
-      read_halts p cells c _ a (λ z. here (p + 1) (set cells v (Some z))) e h is.calm (is.does_is p cells e ∙ flattened (reads cells left) (reads cells right) go _) value
+  operator_by p cells b v c left right go (Ok z) is h value =
+      (cells, kept-refl b cells, read_goes p cells c _ z (λ z. here (p + 1) (set cells v (Some z))) h is.calm (is.does_is p cells ∙ flattened (reads cells left) (reads cells right) go _) value)
+  operator_by p cells b v c left right go (Err a) is h value =
+      read_halts p cells c _ a (λ z. here (p + 1) (set cells v (Some z))) h is.calm (is.does_is p cells ∙ flattened (reads cells left) (reads cells right) go _) value
 
   -- what is reached from there is reached from here
   pub operates_from : (b v : ℕ) (xs ys : List Cell) (from there : State) (q : ℕ) (r : Result ℤ Act) → Kept b xs ys → Onward from there → Operates b v ys there q r → Operates b v xs from q r
-  operates_from b v xs ys from there q (Ok z) kept on o = (o.0, kept-trans b xs ys o.0 kept o.1, chain (program_of f) w n from there _ on o.2)
-  operates_from b v xs ys from there q (Err a) kept on o = comes (program_of f) w n from there output turns (Met a) on o
+  operates_from b v xs ys from there q (Ok z) kept on o = (o.0, kept-trans b xs ys o.0 kept o.1, chain (program_of f) under n from there _ on o.2)
+  operates_from b v xs ys from there q (Err a) kept on o = comes (program_of f) under n from there output turns (Met a) on o
 
   pub reaches_from : (b d : ℕ) (xs ys : List Cell) (from there : State) (q : ℕ) (r : Result ℤ Act) → Kept b xs ys → Onward from there → Reaches b d ys there q r → Reaches b d xs from q r
-  reaches_from b d xs ys from there q (Ok z) kept on o = (o.0, written-after b d z xs ys o.0 kept o.1, chain (program_of f) w n from there _ on o.2)
-  reaches_from b d xs ys from there q (Err a) kept on o = comes (program_of f) w n from there output turns (Met a) on o
+  reaches_from b d xs ys from there q (Ok z) kept on o = (o.0, written-after b d z xs ys o.0 kept o.1, chain (program_of f) under n from there _ on o.2)
+  reaches_from b d xs ys from there q (Err a) kept on o = comes (program_of f) under n from there output turns (Met a) on o
 
   -- an operator whose result is the whole
   pub reaches_by : (b d : ℕ) (ref : List Cell) (from : State) (q : ℕ) (r : Result ℤ Act) → length ref ≡ k → d < k → Operates b d ref from q r → Reaches b d ref from q r
@@ -204,7 +204,7 @@ module _ (f : Function) (w : Widths) (n : ℕ) (output : List ℕ) (turns : ℕ)
           let right_is : reads one (Var (t + 1)) ≡ Ok y = ap read_of written.holds in
           let value : with_value (reads one left) (λ x. with_value (reads one (Var (t + 1))) (λ y. go x y)) ≡ go x y = rw (left_is, right_is) refl in
           operates_from t v cells one (here q cells) (here (q + length (into_code g (t + 1) (t + 2))) one) _ (go x y) (kept-less (t + 1) t cells one (omega arith) kept1) reached.2
-          (operator_by (q + length (into_code g (t + 1) (t + 2))) one t v c left (Var (t + 1)) go (go x y) is (written.same_length ∙ e) h value)
+          (operator_by (q + length (into_code g (t + 1) (t + 2))) one t v c left (Var (t + 1)) go (go x y) is h value)
       second_value q cells x (Err b) is e read reached h = reached
 
       second_by : (q : ℕ) (cells : List Cell) (o : Option Operand) → atom_of g ≡ o → IsOperator c v left (operand_or o (t + 1)) go → length cells ≡ k → Agrees us cells → reads cells left ≡ rx
@@ -218,7 +218,7 @@ module _ (f : Function) (w : Widths) (n : ℕ) (output : List ℕ) (turns : ℕ)
           let place : q + 0 ≡ q = add-zero q in
           let value : with_value (reads cells left) (λ x. with_value (reads cells o) (λ y. go x y)) ≡ with_value rx (λ x. with_value (value_of us g) (λ y. go x y)) =
           rw (read, atom-reads us cells g o agrees fit is) refl in
-          rw place (operator_by q cells t v c left o go _ operator e (rw place at h) value)
+          rw place (operator_by q cells t v c left o go _ operator (rw place at h) value)
 
       pub second : (q : ℕ) (cells : List Cell) → IsOperator c v left (operand_in g (t + 1)) go → length cells ≡ k → Agrees us cells → reads cells left ≡ rx
           → (atom_of g ≡ None → (x : ℤ) × (rx ≡ Ok x)) → Through us g (t + 1) (t + 2) → Stands f.commands q (commands_or (atom_of g) (into_code g (t + 1) (t + 2)))
@@ -257,7 +257,7 @@ module _ (f : Function) (w : Widths) (n : ℕ) (output : List ℕ) (turns : ℕ)
           rw place (inr (record {
             cells' = cells;
             kept = kept-refl t cells;
-            onward = stays (program_of f) w n (here p cells);
+            onward = stays (program_of f) under n (here p cells);
             read = atom-reads us cells e o agrees fit is;
             held = λ h. cc;
           }))

@@ -2,8 +2,8 @@
 use Rattle.std.specs.Prelude.{ℕ, ◌≡◌, ◌≤◌, ◌<◌, ◌+◌, ◌*◌, ◌^◌, List, [], ◌∷◌, length, All, codes, IsTrue, pos, Option, Some, None, ⊤}
 use Rattle.porch_types.specs.Leaves.{kind_types}
 use Rattle.porch_types.specs.declared.shapes.Kind.TheVariants.{Int}
-use Rattle.porch_values.specs.declared.widths.Widths.{Widths}
 use Rattle.porch_values.specs.Integers.{in_range}
+use Rattle.porch_objects.specs.Meaning.{Environment}
 use Rattle.porch_syntax.specs.Tree.{Node, variable, whole, character, nested, product, sum, less, Nodes, no_nodes, node, Terms, no_terms, term, Action, assign, repeat, putchar, give, Actions, no_actions, action, Program}
 use Rattle.porch_syntax.specs.Language.{unit_tokens, IsSource}
 use Rattle.porch_flat.specs.declared.flat.Flat.{Flat}
@@ -73,7 +73,7 @@ pub record IsLowered (p : Program) (flat : Flat) : Type 0 where
 
 -- it means what the tree means, marks and kind of act included
 abbrev pub MeansTheSame : Program → Flat → Type 0
-MeansTheSame p flat = (w : Widths) (n : ℕ) (input : List ℕ) → Means flat w n input (mean kind_types p w n input)
+MeansTheSame p flat = (under : Environment) (n : ℕ) → Means flat under n (mean kind_types p under n)
 
 -- the tree of a text is one that is lowered
 abbrev pub SourcesAreLowerable : Type 0

@@ -9,6 +9,7 @@ ghost use Rattle.porch_lower.specs.Lowered.{IsLowerable, IsLowered, MeansTheSame
 
 use crate::statement::{declarations, statements};
 use crate::temporaries::{declarations_temps, statements_temps};
+use porch_abstract::laws::silent_steps_tell_nothing;
 use porch_flat::{Command, Flat, Function, Operand, Plain, ValidFault};
 use porch_syntax::Tree;
 use porch_types::Types;
@@ -105,6 +106,8 @@ pub fn lower(alloc: Global, tree: &Tree) -> Result<Plain, AllocError>
     ensures meaning { IfOk result (λ plain. MeansTheSame (program_of tree.now) plain) }
     ensures lowered { IfOk result (λ plain. IsLowered (program_of tree.now) plain) }
 {
+    // No command makes a mark, and neither does the tree.
+    silent_steps_tell_nothing();
     let flat = flat(alloc, tree)?;
     match Plain::new(alloc, flat) {
         Ok(plain) => Ok(plain),

@@ -12,7 +12,7 @@ no_memory-requires c =
     only_memory c.in_ok-flat.flat c.in-Err.fault (subst IsValid (sym c.in_ok-flat.ensures) (valid (program_of c.args.tree.now) c.requires)) c.in-Err.ensures.refused
 
 pub returns-in-Ok-clause-meaning : goal.returns-in-Ok-clause-meaning
-returns-in-Ok-clause-meaning c = subst (λ flat. MeansTheSame (program_of c.args.tree.now) flat) (sym (c.in-Ok.ensures.same ∙ c.in_ok-flat.ensures)) (means_the_same (program_of c.args.tree.now) c.requires)
+returns-in-Ok-clause-meaning c = subst (λ flat. MeansTheSame (program_of c.args.tree.now) flat) (sym (c.in-Ok.ensures.same ∙ c.in_ok-flat.ensures)) (means_the_same c.silent_steps_tell_nothing.ensures (program_of c.args.tree.now) c.requires)
 
 pub returns-in-Ok-clause-lowered : goal.returns-in-Ok-clause-lowered
 returns-in-Ok-clause-lowered c = subst (λ flat. IsLowered (program_of c.args.tree.now) flat) (sym (c.in-Ok.ensures.same ∙ c.in_ok-flat.ensures)) (lowered (program_of c.args.tree.now))
