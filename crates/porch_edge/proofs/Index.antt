@@ -23,22 +23,6 @@ file_of-with CkB g fs x = elim g as (λ h. file_of CkB (with_file h fs x) ≡ (i
 file_of-with Layouts g fs x = elim g as (λ h. file_of Layouts (with_file h fs x) ≡ (if index_of Layouts == index_of h then x else file_of Layouts fs)) [ Program ↦ refl | Output ↦ refl | CkA ↦ refl | CkB ↦ refl | Layouts ↦ refl | Input ↦ refl ]
 file_of-with Input g fs x = elim g as (λ h. file_of Input (with_file h fs x) ≡ (if index_of Input == index_of h then x else file_of Input fs)) [ Program ↦ refl | Output ↦ refl | CkA ↦ refl | CkB ↦ refl | Layouts ↦ refl | Input ↦ refl ]
 
-pub own_bytes : (g : FileName) (fs : Files) (x : List ℕ) → file_of g (with_file g fs x) ≡ x
-own_bytes Program fs x = refl
-own_bytes Output fs x = refl
-own_bytes CkA fs x = refl
-own_bytes CkB fs x = refl
-own_bytes Layouts fs x = refl
-own_bytes Input fs x = refl
-
-pub with_own : (g : FileName) (fs : Files) → with_file g fs (file_of g fs) ≡ fs
-with_own Program fs = refl
-with_own Output fs = refl
-with_own CkA fs = refl
-with_own CkB fs = refl
-with_own Layouts fs = refl
-with_own Input fs = refl
-
 pub with_back : (g : FileName) (fs : Files) (x : List ℕ) → with_file g (with_file g fs x) (file_of g fs) ≡ fs
 with_back Program fs x = refl
 with_back Output fs x = refl
@@ -67,11 +51,3 @@ by_file g P own others f = elim (cases_eq (index_of f) (index_of g)) [
   | inl same ↦ subst P (sym (same_index f g same)) own
   | inr other ↦ others f other
 ]
-
-pub with_twice : (g : FileName) (fs : Files) (x y : List ℕ) → with_file g (with_file g fs x) y ≡ with_file g fs y
-with_twice Program fs x y = refl
-with_twice Output fs x y = refl
-with_twice CkA fs x y = refl
-with_twice CkB fs x y = refl
-with_twice Layouts fs x y = refl
-with_twice Input fs x y = refl

@@ -3,7 +3,6 @@ pub mod Index
 pub mod Steps
 pub mod MemorySteps
 pub mod Logged
-pub mod Runs
 pub mod Painted
 pub mod Picks
 pub mod Growth

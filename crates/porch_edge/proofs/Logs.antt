@@ -4,7 +4,7 @@ use Rattle.porch_edge.specs.declared.disk.FileName.{FileName}
 use Rattle.porch_edge.specs.declared.memory_calls.Change.{Change}
 use Rattle.porch_edge.specs.declared.memory_calls.Call.{Call}
 use Rattle.porch_edge.specs.Files.{Files, with_file}
-use Rattle.porch_edge.specs.Calls.{Logged}
+use Rattle.porch_edge.specs.inside.Kept.{Logged}
 
 pub relogged : {fs gs : Files} {old new : List Call} {file : FileName} {b bytes : List ℕ} {s change : Change} → b ≡ bytes → s ≡ change → Logged fs gs old new file b s → Logged fs gs old new file bytes change
 relogged {fs = fs} {old = old} {file = file} same_bytes same_change l = record {

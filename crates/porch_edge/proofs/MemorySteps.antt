@@ -10,8 +10,9 @@ use Rattle.porch_edge.specs.declared.memory_calls.Change.TheVariants.{Nothing, S
 use Rattle.porch_edge.specs.declared.memory_calls.Call.{Call}
 use Rattle.porch_edge.specs.Files.{Files, file_of, with_file, written, padded_to, Torn, Shortened, Marred, Changed}
 use Rattle.porch_edge.specs.Disk.{DiskState, Stays, Alters}
-use Rattle.porch_edge.specs.Calls.{Leaves, memory_state, Kept, Noted}
-use Rattle.porch_edge.proofs.Index.{with_own}
+use Rattle.porch_edge.specs.Calls.{Leaves, memory_state}
+use Rattle.porch_edge.specs.inside.Kept.{Kept, Noted}
+use Rattle.porch_edge.specs.OneFile.{with_own}
 use Rattle.porch_edge.proofs.Steps.{in_any, passes, stays_none, the_call, keeps_nothing, kept_nothing, durable_synced, keeps_synced, kept_synced}
 
 -- the calls, of which the last stands first

@@ -7,12 +7,13 @@ use Rattle.porch_edge.specs.declared.memory_calls.Change.{Change}
 use Rattle.porch_edge.specs.declared.memory_calls.Change.TheVariants.{Nothing, Synced, Write, Cut, Put}
 use Rattle.porch_edge.specs.declared.memory_calls.Call.{Call}
 use Rattle.porch_edge.specs.Files.{Torn, Shortened}
-use Rattle.porch_edge.specs.Calls.{index_of, change_on, bytes_before, LeavesBy, FileLeaves, Did, FileKept}
+use Rattle.porch_edge.specs.Calls.{index_of, change_on, bytes_before, LeavesBy, FileLeaves}
+use Rattle.porch_edge.specs.inside.Kept.{Did, FileKept}
 use Rattle.std.specs.declared.option.Option.{Option}
 use Rattle.std.specs.declared.option.Option.TheVariants.{Some, None}
 use Rattle.porch_edge.specs.declared.memory_plan.Pick.{Pick}
 use Rattle.porch_edge.specs.declared.memory_plan.Pick.TheVariants.{Old, New, Fill}
-use Rattle.porch_edge.specs.Laws.{reads}
+use Rattle.porch_edge.specs.inside.MemoryLaws.{reads}
 use Rattle.porch_edge.specs.Picks.{is_between, is_pending, pending_by, painted, synced_by, synced_bytes, revived}
 use Rattle.porch_edge.proofs.Painted.{painted_agree, painted_none, painted_twice, length-painted, take-painted, drop-painted}
 

@@ -1,26 +1,13 @@
--- The calls that a disk in memory keeps, and what a crash may leave after them.
-use Rattle.std.specs.Prelude.{◌≡◌, ◌==◌, ℕ, ◌^◌, ◌≤◌, ◌⊎◌, ◌++◌, List, [], ◌∷◌, length, if◌then◌else◌, Vec}
-use Rattle.std.specs.declared.alloc.Global.{Global}
+-- What a crash may leave after the calls that a disk in memory keeps.
+use Rattle.std.specs.Prelude.{◌≡◌, ◌==◌, ℕ, ◌≤◌, ◌⊎◌, List, [], ◌∷◌, length, if◌then◌else◌}
 use Rattle.std.specs.declared.option.Option.TheVariants.{Some}
 use Rattle.porch_edge.specs.declared.disk.FileName.{FileName}
 use Rattle.porch_edge.specs.declared.disk.FileName.TheVariants.{Program, Output, CkA, CkB, Layouts, Input}
 use Rattle.porch_edge.specs.declared.memory_calls.Change.{Change}
 use Rattle.porch_edge.specs.declared.memory_calls.Change.TheVariants.{Nothing, Synced, Write, Cut, Put}
 use Rattle.porch_edge.specs.declared.memory_calls.Call.{Call}
-use Rattle.porch_edge.specs.Files.{Files, file_of, with_file, IsWithin, Torn, Shortened}
+use Rattle.porch_edge.specs.Files.{Files, file_of, with_file, Torn, Shortened}
 use Rattle.porch_edge.specs.Disk.{DiskState}
-
--- one call more is kept, which has left its file so
-pub record Logged (fs gs : Files) (old new : List Call) (file : FileName) (bytes : List ℕ) (change : Change) : Type 0 where
-  pub before : Vec ℕ Global
-  pub had : before.items ≡ file_of file fs
-  pub has : gs ≡ with_file file fs bytes
-  pub kept : new ≡ old ++ record { file = file; change = change; before = before } ∷ []
-
--- one call more is kept, which has changed no byte
-pub record Noted (old new : List Call) (file : FileName) (change : Change) : Type 0 where
-  pub before : Vec ℕ Global
-  pub kept : new ≡ old ++ record { file = file; change = change; before = before } ∷ []
 
 -- a number for each file
 abbrev pub index_of : FileName → ℕ
@@ -74,22 +61,3 @@ LeftSince fs (call ∷ earlier) t c =
 -- a disk with these files after these calls, of which the last stands first
 abbrev pub memory_state : Files → List Call → DiskState
 memory_state fs calls = record { files = Some fs; leaves = Leaves fs calls; moment = λ _. length calls; since = λ t. LeftSince fs calls (t 0) }
-
--- a call has done what it says to bytes that were so before it
-abbrev pub Did : Change → List ℕ → List ℕ → Type 0
-Did Nothing before now = Unit {0}
-Did Synced before now = Unit {0}
-Did (Write from to) before now = Torn from to before now
-Did (Cut len) before now = Shortened len before now × (length before ≤ 2 ^ 62)
-Did Put before now = Unit {0}
-
--- each of these calls has done what it says to the file
-abbrev pub FileKept : FileName → List ℕ → List Call → Type 0
-FileKept file now [] = Unit {0}
-FileKept file now (call ∷ earlier) =
-    Did (change_on file call) call.before.items now × FileKept file (bytes_before (change_on file call) call.before.items now) earlier
-
--- the files read as their calls have made them, and none is too long
-pub record Kept (fs : Files) (calls : List Call) : Type 0 where
-  pub within : IsWithin fs
-  pub each : (file : FileName) → FileKept file (file_of file fs) calls

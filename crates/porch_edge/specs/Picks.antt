@@ -8,9 +8,7 @@ use Rattle.porch_edge.specs.declared.memory_calls.Change.TheVariants.{Nothing, S
 use Rattle.porch_edge.specs.declared.memory_calls.Call.{Call}
 use Rattle.porch_edge.specs.declared.memory_plan.Pick.{Pick}
 use Rattle.porch_edge.specs.declared.memory_plan.Pick.TheVariants.{Old, New, Fill}
-use Rattle.std.proofs.Common.{get_or}
-use Rattle.porch_edge.specs.Files.{Files, file_of}
-use Rattle.porch_edge.specs.Calls.{index_of, change_on, bytes_before}
+use Rattle.porch_edge.specs.Calls.{change_on, bytes_before}
 
 -- what a call makes of what the last sync left of its file
 abbrev pub synced_by : Change → List ℕ → List ℕ → List ℕ
@@ -25,11 +23,6 @@ abbrev pub synced_bytes : FileName → List ℕ → List Call → List ℕ
 synced_bytes file now [] = now
 synced_bytes file now (call ∷ earlier) =
     synced_by (change_on file call) now (synced_bytes file (bytes_before (change_on file call) call.before.items now) earlier)
-
--- what undoing these calls is to leave of a file, which has come to its last sync or not
-abbrev pub left_to_undo : FileName → Files → List Bool → List Call → List ℕ
-left_to_undo file fs settled calls =
-    if get_or settled (index_of file) false then file_of file fs else synced_bytes file (file_of file fs) calls
 
 -- the place lies from the first up to the second
 abbrev pub is_between : ℕ → ℕ → ℕ → Bool

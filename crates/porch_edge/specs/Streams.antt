@@ -1,7 +1,7 @@
 -- What a call on a stream does to the bytes that a source has left and that a sink holds. An object tells them (Some)
 -- or doesn't (None), and that never changes.
 use Rattle.std.specs.Prelude.{ℕ, ◌<◌, ◌≡◌, List, [], ◌++◌, length, take, ⊤}
-use Rattle.std.proofs.Common.{append_assoc}
+use Rattle.std.proofs.Common.{◌∙◌, ap, append_assoc}
 use Rattle.std.specs.declared.option.Option.{Option}
 use Rattle.std.specs.declared.option.Option.TheVariants.{Some, None}
 use Rattle.std.specs.declared.result.Result.{Result}
@@ -53,4 +53,4 @@ Grew-twice None None (Some c) xs ys p q = absurd q
 Grew-twice None (Some b) c xs ys p q = absurd p
 Grew-twice (Some a) None c xs ys p q = absurd p
 Grew-twice (Some a) (Some b) None xs ys p q = absurd q
-Grew-twice (Some a) (Some b) (Some c) xs ys p q = rw (q, p) (append_assoc a xs ys)
+Grew-twice (Some a) (Some b) (Some c) xs ys p q = q ∙ ap (λ (l : List ℕ). l ++ ys) p ∙ append_assoc a xs ys

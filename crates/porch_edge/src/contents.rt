@@ -1,4 +1,4 @@
-// The bytes of six files in memory.
+//! The bytes of six files in memory.
 use crate::FileName;
 use std::alloc::Global;
 use std::marker::Model;

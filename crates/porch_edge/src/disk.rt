@@ -1,4 +1,4 @@
-// The disk: six files that keep what was written, and what a crash may leave of them.
+//! The disk: six files that keep what was written, and what a crash may leave of them.
 
 use crate::Failed;
 
@@ -17,6 +17,25 @@ pub enum FileName {
     Layouts,
     /// What the program reads.
     Input,
+}
+
+impl FileName {
+    ghost use Rattle.std.specs.Prelude.{◌≡◌};
+    ghost use Rattle.porch_edge.specs.Names.{file_name};
+
+    /// Its name in a folder.
+    pub fn name(self) -> &'static str
+        ensures { result.now ≡ file_name self }
+    {
+        match self {
+            FileName::Program => "program.ft.c",
+            FileName::Output => "output",
+            FileName::CkA => "ck.a",
+            FileName::CkB => "ck.b",
+            FileName::Layouts => "layouts.toml",
+            FileName::Input => "input",
+        }
+    }
 }
 
 /// Six files under one clock of moments. A missing file has length 0, and no file is longer than 2^62 bytes.

@@ -1,8 +1,9 @@
-// The current folder as a disk.
-ghost use Rattle.std.specs.Prelude.{◌≡◌, ◌≤◌, ◌<◌, ◌+◌, ◌^◌, IfOk, length};
-ghost use Rattle.porch_edge.specs.Causes.{Rose};
+//! The current folder as a disk.
+ghost use Rattle.std.specs.Prelude.{◌≡◌, ◌≤◌, ◌<◌, ◌+◌, ◌^◌, IfOk, OnOk, length};
+ghost use Rattle.porch_edge.specs.Causes.{HasCause, faults_after};
 ghost use Rattle.porch_edge.specs.Disk.{untold};
 
+use crate::answer::{answer, refuse};
 use crate::{Disk, Failed, FileName};
 use std::fs::{File, OpenFile, OpenOptions};
 use std::io;
@@ -25,7 +26,9 @@ pub struct DirDisk<R: Runtime<File = File>> {
 
 impl<R: Runtime<File = File>> DirDisk<R> {
     /// The files of the folder that the program runs in. Nothing is opened yet.
-    pub fn new(rt: R) -> DirDisk<R> {
+    pub fn new(rt: R) -> DirDisk<R>
+        ensures { ⟦<DirDisk<R> as Disk>⟧.faults result ≡ 0 }
+    {
         DirDisk {
             rt,
             faults: 0,
@@ -33,18 +36,9 @@ impl<R: Runtime<File = File>> DirDisk<R> {
         }
     }
 
-    // Counts one more fault.
-    fn failed(&mut self) -> Failed
-        ensures rose { Rose self.old.faults self.new.faults }
-        ensures later { self.old.faults ≤ self.new.faults }
-    {
-        self.faults = self.faults.saturating_add(1);
-        Failed
-    }
-
     // The file opened to be read, or none where it is missing.
     fn opened(&self, file: FileName) -> io::Result<Option<File>> {
-        match OpenOptions::new().read(true).open(&self.rt, name_of(file)) {
+        match OpenOptions::new().read(true).open(&self.rt, file.name()) {
             Ok(file) => Ok(Some(file)),
             Err(e) if e.kind() == io::ErrorKind::NotFound => Ok(None),
             Err(e) => Err(e),
@@ -73,7 +67,7 @@ impl<R: Runtime<File = File>> DirDisk<R> {
     fn write_to(&mut self, file: FileName, at: u64, bytes: &[u8]) -> io::Result<()>
         ensures { self.new.faults ≡ self.old.faults }
     {
-        let name = name_of(file);
+        let name = file.name();
         let there = match OpenOptions::new().write(true).open(&self.rt, name) {
             Err(e) if e.kind() == io::ErrorKind::NotFound => {
                 self.names_pending = true;
@@ -95,7 +89,7 @@ impl<R: Runtime<File = File>> DirDisk<R> {
         }
         OpenOptions::new()
             .write(true)
-            .open(&self.rt, name_of(file))?
+            .open(&self.rt, file.name())?
             .set_len(len)
     }
 
@@ -133,17 +127,6 @@ fn fill(file: &File, at: u64, buf: &mut [u8]) -> io::Result<usize>
     Ok(filled)
 }
 
-fn name_of(file: FileName) -> &'static str {
-    match file {
-        FileName::Program => "program.ft.c",
-        FileName::Output => "output",
-        FileName::CkA => "ck.a",
-        FileName::CkB => "ck.b",
-        FileName::Layouts => "layouts.toml",
-        FileName::Input => "input",
-    }
-}
-
 // How many of these bytes from this place on lie below 2^62.
 fn within(at: u64, count: usize) -> usize
     ensures fewer { result ≤ count }
@@ -162,52 +145,64 @@ impl<R: Runtime<File = File>> Disk for DirDisk<R> {
 
     ghost faults = { λ d. d.faults };
 
-    fn len(&mut self, file: FileName) -> Result<u64, Failed> {
+    fn len(&mut self, file: FileName) -> Result<u64, Failed>
+        ensures within { IfOk result (λ n. n ≤ 2 ^ 62) }
+        ensures cause { HasCause self.old.faults self.new.faults result }
+        ensures counted { self.new.faults ≡ faults_after self.old.faults result }
+    {
         match self.length(file) {
             Ok(len) if len <= LONGEST => Ok(len),
-            _ => Err(self.failed()),
+            _ => refuse(&mut self.faults),
         }
     }
 
-    fn read(&mut self, file: FileName, at: u64, buf: &mut [u8]) -> Result<usize, Failed> {
+    fn read(&mut self, file: FileName, at: u64, buf: &mut [u8]) -> Result<usize, Failed>
+        ensures bound { IfOk result (λ n. n ≤ length buf.new) }
+        ensures within { IfOk result (λ n. 0 < n → at + n ≤ 2 ^ 62) }
+        ensures cause { HasCause self.old.faults self.new.faults result }
+        ensures counted { self.new.faults ≡ faults_after self.old.faults result }
+    {
         let most = within(at, buf.len());
         if most == 0 {
             return Ok(0);
         }
-        match self.read_from(file, at, &mut buf[..most]) {
-            Ok(count) => Ok(count),
-            Err(_) => Err(self.failed()),
-        }
+        let given = self.read_from(file, at, &mut buf[..most]);
+        answer(&mut self.faults, given)
     }
 
-    fn write_at(&mut self, file: FileName, at: u64, bytes: &[u8]) -> Result<(), Failed> {
+    fn write_at(&mut self, file: FileName, at: u64, bytes: &[u8]) -> Result<(), Failed>
+        ensures within { OnOk result (at + length bytes.now ≤ 2 ^ 62) }
+        ensures cause { HasCause self.old.faults self.new.faults result }
+        ensures counted { self.new.faults ≡ faults_after self.old.faults result }
+    {
         if at > LONGEST || within(at, bytes.len()) < bytes.len() {
-            return Err(self.failed());
+            return refuse(&mut self.faults);
         }
         if bytes.is_empty() {
             return Ok(());
         }
-        match self.write_to(file, at, bytes) {
-            Ok(()) => Ok(()),
-            Err(_) => Err(self.failed()),
-        }
+        let given = self.write_to(file, at, bytes);
+        answer(&mut self.faults, given)
     }
 
-    fn cut(&mut self, file: FileName, len: u64) -> Result<(), Failed> {
+    fn cut(&mut self, file: FileName, len: u64) -> Result<(), Failed>
+        ensures within { OnOk result (len ≤ 2 ^ 62) }
+        ensures cause { HasCause self.old.faults self.new.faults result }
+        ensures counted { self.new.faults ≡ faults_after self.old.faults result }
+    {
         if len > LONGEST {
-            return Err(self.failed());
+            return refuse(&mut self.faults);
         }
-        match self.cut_to(file, len) {
-            Ok(()) => Ok(()),
-            Err(_) => Err(self.failed()),
-        }
+        let given = self.cut_to(file, len);
+        answer(&mut self.faults, given)
     }
 
-    fn sync(&mut self, file: FileName) -> Result<(), Failed> {
-        match self.sync_all(file) {
-            Ok(()) => Ok(()),
-            Err(_) => Err(self.failed()),
-        }
+    fn sync(&mut self, file: FileName) -> Result<(), Failed>
+        ensures cause { HasCause self.old.faults self.new.faults result }
+        ensures counted { self.new.faults ≡ faults_after self.old.faults result }
+    {
+        let given = self.sync_all(file);
+        answer(&mut self.faults, given)
     }
 
     ghost reads_leave = { λ d. tt };

@@ -4,13 +4,15 @@
 //! `sink` are the streams, `memory_source` and `memory_sink` the ones in memory, which tell all, and `standard` those over
 //! the standard streams, which tell nothing. `disk` is the disk, whose calls are told in `specs/Disk.antt`; `memory_disk`
 //! is the one in memory, on which a crash may fall inside any write, and `folder` the one over the files of a folder,
-//! which tells nothing.
+//! which tells nothing. What joins calls that follow each other on a disk is said in `laws`.
 #![tactic(auto)]
 
+mod answer;
 mod contents;
 mod disk;
 pub mod failed;
 mod folder;
+mod laws;
 mod memory_calls;
 mod memory_disk;
 mod memory_picks;
@@ -24,6 +26,7 @@ pub mod standard;
 pub use disk::{Disk, FileName};
 pub use failed::Failed;
 pub use folder::DirDisk;
+pub use laws::{calls_look, changes_join, looks_join, runs_begin, runs_go_on, runs_join};
 pub use memory_disk::MemDisk;
 pub use memory_plan::{Pick, Stop};
 pub use memory_sink::MemSink;

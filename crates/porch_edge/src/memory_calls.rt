@@ -1,7 +1,7 @@
-// The calls that a disk in memory keeps, and what they do to its files.
+//! The calls that a disk in memory keeps, and what they do to its files.
 ghost use Rattle.std.specs.Prelude.{◌≡◌, ◌≤◌, ◌<◌, ◌+◌, ◌-◌, ◌++◌, ◌^◌, [], ◌∷◌, length, take, drop, replicate, min, IfOk, OnOk, OnErr, vec_len, vec_capacity};
 ghost use Rattle.porch_edge.specs.Files.{file_of, with_file, written};
-ghost use Rattle.porch_edge.specs.Calls.{Logged, Noted};
+ghost use Rattle.porch_edge.specs.inside.Kept.{Logged, Noted};
 
 use crate::FileName;
 use crate::contents::Contents;
@@ -40,7 +40,7 @@ fn append(calls: &mut Vec<Call>, call: Call)
 }
 
 /// Keeps a call that changes no byte. Want of memory leaves everything as it was.
-pub fn note(
+pub(crate) fn note(
     alloc: Global,
     calls: &mut Vec<Call>,
     file: FileName,
@@ -70,7 +70,8 @@ fn exchange(
     change: Change,
     next: Vec<u8>,
 ) -> Result<(), AllocError>
-    ensures ok { OnOk result (Logged files.old files.new calls.old.items calls.new.items file next.items change) }
+    ensures ok { OnOk result
+        (Logged files.old files.new calls.old.items calls.new.items file next.items change) }
     ensures files_err { OnErr result (files.new ≡ files.old) }
     ensures calls_err { OnErr result (calls.new.items ≡ calls.old.items) }
 {
@@ -91,7 +92,8 @@ fn exchange(
 fn over(alloc: Global, old: &[u8], at: usize, bytes: &[u8]) -> Result<Vec<u8>, AllocError>
     requires inside { at ≤ length old.now }
     requires short { at + length bytes.now ≤ 2 ^ 62 }
-    ensures { IfOk result (λ v. v.items ≡ take at old.now ++ bytes.now ++ drop (at + length bytes.now) old.now) }
+    ensures { IfOk result
+        (λ v. v.items ≡ take at old.now ++ bytes.now ++ drop (at + length bytes.now) old.now) }
 {
     let mut next = old[..at].to_vec(alloc)?;
     next.extend_from_slice(bytes)?;
@@ -105,7 +107,8 @@ fn over(alloc: Global, old: &[u8], at: usize, bytes: &[u8]) -> Result<Vec<u8>, A
 // The bytes after a write that begins past their end.
 fn behind(alloc: Global, old: &[u8], at: usize, bytes: &[u8]) -> Result<Vec<u8>, AllocError>
     requires { length old.now < at }
-    ensures { IfOk result (λ v. v.items ≡ (old.now ++ replicate (at - length old.now) 0) ++ bytes.now) }
+    ensures { IfOk result
+        (λ v. v.items ≡ (old.now ++ replicate (at - length old.now) 0) ++ bytes.now) }
 {
     let mut next = old.to_vec(alloc)?;
     next.resize(at, 0)?;
@@ -127,7 +130,7 @@ fn rewritten(alloc: Global, old: &[u8], at: usize, bytes: &[u8]) -> Result<Vec<u
 }
 
 /// Writes at a place of a file. Want of memory leaves everything as it was.
-pub fn write(
+pub(crate) fn write(
     alloc: Global,
     files: &mut Contents,
     calls: &mut Vec<Call>,
@@ -138,7 +141,8 @@ pub fn write(
     requires some { 0 < length bytes.now }
     requires short { at + length bytes.now ≤ 2 ^ 62 }
     ensures ok { OnOk result (Logged files.old files.new calls.old.items calls.new.items file
-        (written (file_of file files.old) at bytes.now) (Change.Write (min at (length (file_of file files.old))) (at + length bytes.now))) }
+        (written (file_of file files.old) at bytes.now)
+        (Change.Write (min at (length (file_of file files.old))) (at + length bytes.now))) }
     ensures files_err { OnErr result (files.new ≡ files.old) }
     ensures calls_err { OnErr result (calls.new.items ≡ calls.old.items) }
 {
@@ -155,7 +159,7 @@ pub fn write(
 }
 
 /// Cuts a file that is longer to a length. Want of memory leaves everything as it was.
-pub fn cut(
+pub(crate) fn cut(
     alloc: Global,
     files: &mut Contents,
     calls: &mut Vec<Call>,
@@ -173,14 +177,15 @@ pub fn cut(
 }
 
 /// Gives a file other bytes, synced. Want of memory leaves everything as it was.
-pub fn put(
+pub(crate) fn put(
     alloc: Global,
     files: &mut Contents,
     calls: &mut Vec<Call>,
     file: FileName,
     bytes: &[u8],
 ) -> Result<(), AllocError>
-    ensures ok { OnOk result (Logged files.old files.new calls.old.items calls.new.items file bytes.now Change.Put) }
+    ensures ok { OnOk result
+        (Logged files.old files.new calls.old.items calls.new.items file bytes.now Change.Put) }
     ensures files_err { OnErr result (files.new ≡ files.old) }
     ensures calls_err { OnErr result (calls.new.items ≡ calls.old.items) }
 {

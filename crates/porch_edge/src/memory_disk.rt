@@ -1,8 +1,8 @@
-// A disk in memory, for tests and drills. Its calls can be made to fail, and it can be stopped in one of them.
+//! A disk in memory, for tests and drills. Its calls can be made to fail, and it can be stopped in one of them.
 ghost use Rattle.std.specs.Prelude.{◌≡◌, ◌≤◌, ◌-◌, ◌++◌, length, take, drop, min, reverse, OnOk, OnErr};
 ghost use Rattle.porch_edge.specs.Causes.{Rose, HasCause};
-ghost use Rattle.porch_edge.specs.Calls.{Kept};
-ghost use Rattle.porch_edge.specs.Props.{kept_prop};
+ghost use Rattle.porch_edge.specs.inside.Kept.{Kept};
+ghost use Rattle.porch_edge.specs.inside.Props.{kept_prop};
 
 use crate::contents::Contents;
 use crate::memory_calls::{self, Call, Change};
@@ -104,8 +104,11 @@ impl MemDisk {
     /// Replaces a file, with nothing pending in it. A file of more than 2^62 bytes is refused as one for which
     /// there is no memory.
     pub fn put(&mut self, file: FileName, bytes: &[u8]) -> Result<(), AllocError>
-        ensures has { OnOk result (files_held self.new ≡ with_file file (files_held self.old) bytes.now) }
-        ensures leaves { OnOk result (Follows file (λ _ c. c ≡ bytes.now) (mem_state self.old).leaves (mem_state self.new).leaves) }
+        ensures has { OnOk result
+            (files_held self.new ≡ with_file file (files_held self.old) bytes.now) }
+        ensures leaves { OnOk result
+            (Follows file (λ _ c. c ≡ bytes.now)
+            (mem_state self.old).leaves (mem_state self.new).leaves) }
         ensures refused { OnErr result (IsUntouched self.old self.new) }
         ensures plan { plan_of self.new ≡ plan_of self.old }
         ensures faults { self.new.faults ≡ self.old.faults }
@@ -119,7 +122,8 @@ impl MemDisk {
     /// The disk after the crash, where it has stopped: its content is then the one that the pick names, and else the
     /// one that reads give. Its calls are numbered from 1 again, and none is to fail. It takes no memory.
     pub fn revive(self) -> MemDisk
-        ensures content { (file : FileName) → file_of file (files_held result) ≡ after_crash self file }
+        ensures content { (file : FileName)
+            → file_of file (files_held result) ≡ after_crash self file }
         ensures leaves { (mem_state self).leaves (files_held result) }
         ensures settled { (file : FileName) → IsDurable result file }
         ensures fresh { IsFresh result }
@@ -145,7 +149,8 @@ impl MemDisk {
     // A call that changes no byte.
     fn noted(&mut self, fate: Fate, file: FileName, change: Change) -> Result<(), Failed>
         requires { (change ≡ Nothing) ⊎ (change ≡ Synced) }
-        ensures stays { Stays (mem_state self.old) (mem_state self.new) (files_held self.old) (files_held self.new) }
+        ensures stays { Stays (mem_state self.old) (mem_state self.new)
+            (files_held self.old) (files_held self.new) }
         ensures durable { change ≡ Synced → OnOk result (IsDurable self.new file) }
         ensures plan { plan_of self.new ≡ plan_of self.old }
         ensures fails { fate ≡ Fails → IsUntouched self.old self.new }
@@ -169,7 +174,7 @@ impl Disk for MemDisk {
     ghost use Rattle.porch_edge.specs.Files.{file_of, with_file, written};
     ghost use Rattle.porch_edge.specs.Disk.{LenStep, ReadStep, WriteStep, CutStep, SyncStep};
     ghost use Rattle.porch_edge.specs.Memory.{mem_state, files_held, Obeys};
-    ghost use Rattle.porch_edge.specs.Laws.{reads_leave, counts_now, only_now};
+    ghost use Rattle.porch_edge.specs.inside.MemoryLaws.{reads_leave, counts_now, only_now};
 
     ghost state = { mem_state };
 
@@ -189,7 +194,8 @@ impl Disk for MemDisk {
     fn read(&mut self, file: FileName, at: u64, buf: &mut [u8]) -> Result<usize, Failed>
         ensures bound { IfOk result (λ n. n ≤ length buf.new) }
         ensures within { IfOk result (λ n. 0 < n → at + n ≤ 2 ^ 62) }
-        ensures step { ReadStep (mem_state self.old) (mem_state self.new) file at buf.old buf.new result }
+        ensures step { ReadStep (mem_state self.old) (mem_state self.new)
+            file at buf.old buf.new result }
         ensures cause { HasCause self.old.faults self.new.faults result }
         ensures obeys { Obeys self.old self.new (files_held self.old) result }
     {
@@ -200,9 +206,13 @@ impl Disk for MemDisk {
 
     fn write_at(&mut self, file: FileName, at: u64, bytes: &[u8]) -> Result<(), Failed>
         ensures within { OnOk result (at + length bytes.now ≤ 2 ^ 62) }
-        ensures step { WriteStep (mem_state self.old) (mem_state self.new) file at bytes.now result }
+        ensures step { WriteStep (mem_state self.old) (mem_state self.new)
+            file at bytes.now result }
         ensures cause { HasCause self.old.faults self.new.faults result }
-        ensures obeys { Obeys self.old self.new (with_file file (files_held self.old) (written (file_of file (files_held self.old)) at bytes.now)) result }
+        ensures obeys { Obeys self.old self.new
+            (with_file file (files_held self.old)
+            (written (file_of file (files_held self.old)) at bytes.now))
+            result }
     {
         let fate = self.plan.begin();
         if at > LONGEST || bytes.len() as u64 > LONGEST - at {
@@ -229,7 +239,9 @@ impl Disk for MemDisk {
         ensures within { OnOk result (len ≤ 2 ^ 62) }
         ensures step { CutStep (mem_state self.old) (mem_state self.new) file len result }
         ensures cause { HasCause self.old.faults self.new.faults result }
-        ensures obeys { Obeys self.old self.new (with_file file (files_held self.old) (take len (file_of file (files_held self.old)))) result }
+        ensures obeys { Obeys self.old self.new
+            (with_file file (files_held self.old) (take len (file_of file (files_held self.old))))
+            result }
     {
         let fate = self.plan.begin();
         if len > LONGEST {

@@ -1,10 +1,11 @@
-// What a crash leaves of the files of a disk in memory.
+//! What a crash leaves of the files of a disk in memory.
 ghost use Rattle.std.specs.Prelude.{◌≡◌, ◌∷◌, ◌<◌, List, length, IsTrue, false, reverse};
 ghost use Rattle.porch_edge.specs.declared.memory_calls.Call.{Call};
 ghost use Rattle.porch_edge.specs.Calls.{index_of};
 ghost use Rattle.porch_edge.specs.Files.{file_of, with_file};
 ghost use Rattle.porch_edge.specs.declared.disk.FileName.{FileName};
-ghost use Rattle.porch_edge.specs.Picks.{is_between, is_pending, painted, synced_bytes, left_to_undo, revived};
+ghost use Rattle.porch_edge.specs.Picks.{is_between, is_pending, painted, synced_bytes, revived};
+ghost use Rattle.porch_edge.specs.inside.Undo.{left_to_undo};
 
 use crate::FileName;
 use crate::contents::Contents;
@@ -41,8 +42,11 @@ fn paint(bytes: &mut [u8], from: u64, to: u64, byte: u8)
 // Puts one byte in the places that this call has made pending in a file, and answers whether an earlier call may
 // have made others so.
 fn paint_one(bytes: &mut [u8], call: &Call, file: FileName, byte: u8) -> bool
-    ensures more { IsTrue result → (log : List Call) → painted (is_pending file log) byte 0 bytes.new ≡ painted (is_pending file (call.now ∷ log)) byte 0 bytes.old }
-    ensures done { result ≡ false → (log : List Call) → bytes.new ≡ painted (is_pending file (call.now ∷ log)) byte 0 bytes.old }
+    ensures more { IsTrue result → (log : List Call)
+        → painted (is_pending file log) byte 0 bytes.new
+        ≡ painted (is_pending file (call.now ∷ log)) byte 0 bytes.old }
+    ensures done { result ≡ false → (log : List Call)
+        → bytes.new ≡ painted (is_pending file (call.now ∷ log)) byte 0 bytes.old }
 {
     if index_of(call.file) != index_of(file) {
         return true;
@@ -73,7 +77,9 @@ fn paint_pending(bytes: &mut [u8], calls: &[Call], file: FileName, byte: u8)
 // Puts back the bytes from before a call, where its file hasn't come to its last sync yet.
 fn undo_one(files: &mut Contents, settled: &mut [bool], call: Call)
     requires { length settled.old ≡ 6 }
-    ensures { (file : FileName) → (log : List Call) → left_to_undo file files.new settled.new log ≡ left_to_undo file files.old settled.old (call ∷ log) }
+    ensures { (file : FileName) → (log : List Call)
+        → left_to_undo file files.new settled.new log
+        ≡ left_to_undo file files.old settled.old (call ∷ log) }
 {
     let Call {
         file,
@@ -95,7 +101,9 @@ fn undo_one(files: &mut Contents, settled: &mut [bool], call: Call)
 
 // Puts back what the last sync of each file left.
 fn undo_pending(files: &mut Contents, mut calls: Vec<Call>)
-    ensures { (file : FileName) → file_of file files.new ≡ synced_bytes file (file_of file files.old) (reverse calls.items) }
+    ensures { (file : FileName)
+        → file_of file files.new
+        ≡ synced_bytes file (file_of file files.old) (reverse calls.items) }
 {
     let mut settled = [false; 6];
     while let Some(call) = calls.pop() {
@@ -105,7 +113,8 @@ fn undo_pending(files: &mut Contents, mut calls: Vec<Call>)
 
 // Puts one byte in each pending place of one file.
 fn paint_file(alloc: Global, files: &mut Contents, calls: &[Call], file: FileName, byte: u8)
-    ensures { files.new ≡ with_file file files.old (painted (is_pending file (reverse calls.now)) byte 0 (file_of file files.old)) }
+    ensures { files.new ≡ with_file file files.old
+        (painted (is_pending file (reverse calls.now)) byte 0 (file_of file files.old)) }
 {
     let mut bytes = files.replace(file, Vec::new(alloc));
     paint_pending(&mut bytes, calls, file, byte);
@@ -114,7 +123,9 @@ fn paint_file(alloc: Global, files: &mut Contents, calls: &[Call], file: FileNam
 
 // Puts one byte in each pending place.
 fn paint_files(alloc: Global, files: &mut Contents, calls: &[Call], byte: u8)
-    ensures { (file : FileName) → file_of file files.new ≡ painted (is_pending file (reverse calls.now)) byte 0 (file_of file files.old) }
+    ensures { (file : FileName)
+        → file_of file files.new
+        ≡ painted (is_pending file (reverse calls.now)) byte 0 (file_of file files.old) }
 {
     paint_file(alloc, files, calls, FileName::Program, byte);
     paint_file(alloc, files, calls, FileName::Output, byte);
@@ -125,8 +136,10 @@ fn paint_files(alloc: Global, files: &mut Contents, calls: &[Call], byte: u8)
 }
 
 /// Makes of the files what a crash leaves by this pick, or leaves them where there was none. It takes no memory.
-pub fn crash(alloc: Global, files: &mut Contents, calls: Vec<Call>, pick: Option<Pick>)
-    ensures { (file : FileName) → file_of file files.new ≡ revived pick file (file_of file files.old) (reverse calls.items) }
+pub(crate) fn crash(alloc: Global, files: &mut Contents, calls: Vec<Call>, pick: Option<Pick>)
+    ensures { (file : FileName)
+        → file_of file files.new
+        ≡ revived pick file (file_of file files.old) (reverse calls.items) }
 {
     match pick {
         None | Some(Pick::New) => {}

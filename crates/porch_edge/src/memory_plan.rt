@@ -1,4 +1,4 @@
-// Which calls of a disk in memory fail, and at which one it stops.
+//! Which calls of a disk in memory fail, and at which one it stops.
 ghost use Rattle.std.specs.Prelude.{◌≡◌};
 ghost use Rattle.porch_edge.specs.Plan.{is_over, next_fate, plan_after, plan_to_fail, plan_to_stop};
 

@@ -50,9 +50,9 @@ module _ (gate : Gate) where
 abbrev pub Filling : List ℕ → List ℕ → Type 0
 Filling old x = (0 < length x) × SameFirst old x
 
-pub filling_write : (old y bytes : List ℕ) → 0 < length old → TornWrite old 1 bytes old y → Filling old y
-filling_write old y bytes some torn =
-    let one : min 1 (length old) ≡ 1 = omega arith in
+pub filling_write : (now old y bytes : List ℕ) → 0 < length now → 0 < length old → TornWrite now 1 bytes old y → Filling old y
+filling_write now old y bytes long some torn =
+    let one : min 1 (length now) ≡ 1 = omega arith in
     (omega (arith, torn.no_shorter), subst (λ n. take n y ≡ take n old) one torn.before)
 
 first_of : (n : ℕ) (x : List ℕ) → 0 < n → take 1 (take n x) ≡ take 1 x

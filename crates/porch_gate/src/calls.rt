@@ -1,4 +1,4 @@
-// The calls on a gate. None makes more than three calls on the disk.
+//! The calls on a gate. None makes more than three calls on the disk.
 ghost use Rattle.std.specs.Prelude.{◌≡◌, ◌<◌, ◌≤◌, ◌↔◌, length, IsTrue, IfOk, OnOk};
 ghost use Rattle.porch_edge.specs.Causes.{HasCause};
 ghost use Rattle.porch_edge.specs.Files.{file_of};
@@ -11,7 +11,8 @@ use porch_edge::{Disk, Failed, FileName};
 
 /// Whether the file is open. `Failed` only where the disk failed.
 pub fn is_open<D: Disk>(disk: &mut D, file: FileName, gate: Gate) -> Result<bool, Failed>
-    ensures answer { IfOk result (λ is. WhereTold (D.state disk.old) (λ fs. IsTrue is ↔ IsOpen gate (file_of file fs))) }
+    ensures answer { IfOk result
+        (λ is. WhereTold (D.state disk.old) (λ fs. IsTrue is ↔ IsOpen gate (file_of file fs))) }
     ensures looks { OnlyLooks (D.state disk.old) (D.state disk.new) }
     ensures cause { HasCause (D.faults disk.old) (D.faults disk.new) result }
 {
@@ -27,7 +28,8 @@ pub fn is_open<D: Disk>(disk: &mut D, file: FileName, gate: Gate) -> Result<bool
 /// and else writes nothing. At each moment the file has its old bytes or is closed. `Failed` only where the disk failed.
 pub fn close<D: Disk>(disk: &mut D, file: FileName, gate: Gate) -> Result<(), Failed>
     requires { IsSettled (D.state disk.old) file }
-    ensures now { OnOk result (HasNow (D.state disk.old) (D.state disk.new) file (closed_bytes gate)) }
+    ensures now { OnOk result
+        (HasNow (D.state disk.old) (D.state disk.new) file (closed_bytes gate)) }
     ensures closed { OnOk result (IsClosed (D.state disk.new) file gate) }
     ensures moments { TouchesOnly (D.state disk.old) (D.state disk.new) file (OldOrClosed gate) }
     ensures cause { HasCause (D.faults disk.old) (D.faults disk.new) result }
@@ -47,9 +49,11 @@ pub fn close<D: Disk>(disk: &mut D, file: FileName, gate: Gate) -> Result<(), Fa
 pub fn fill<D: Disk>(disk: &mut D, file: FileName, bytes: &[u8]) -> Result<(), Failed>
     requires settled { IsSettled (D.state disk.old) file }
     requires some { WhereTold (D.state disk.old) (λ fs. 0 < length (file_of file fs)) }
-    ensures now { OnOk result (HasNow (D.state disk.old) (D.state disk.new) file (filled_bytes bytes.now)) }
+    ensures now { OnOk result
+        (HasNow (D.state disk.old) (D.state disk.new) file (filled_bytes bytes.now)) }
     ensures moments { TouchesOnly (D.state disk.old) (D.state disk.new) file SameFirst }
-    ensures closed { (gate : Gate) → HasNoLetter (D.state disk.old) file gate → TouchesOnly (D.state disk.old) (D.state disk.new) file (λ _ c. ¬ IsOpen gate c) }
+    ensures closed { (gate : Gate) → HasNoLetter (D.state disk.old) file gate
+        → TouchesOnly (D.state disk.old) (D.state disk.new) file (λ _ c. ¬ IsOpen gate c) }
     ensures cause { HasCause (D.faults disk.old) (D.faults disk.new) result }
 {
     disk.write_at(file, 1, bytes)?;
@@ -62,7 +66,8 @@ pub fn fill<D: Disk>(disk: &mut D, file: FileName, bytes: &[u8]) -> Result<(), F
 pub fn open_gate<D: Disk>(disk: &mut D, file: FileName, gate: Gate) -> Result<(), Failed>
     requires settled { IsSettled (D.state disk.old) file }
     requires long { WhereTold (D.state disk.old) (λ fs. gate.least ≤ length (file_of file fs)) }
-    ensures now { OnOk result (HasNow (D.state disk.old) (D.state disk.new) file (opened_bytes gate)) }
+    ensures now { OnOk result
+        (HasNow (D.state disk.old) (D.state disk.new) file (opened_bytes gate)) }
     ensures opened { OnOk result (IsOpened (D.state disk.new) file gate) }
     ensures moments { TouchesOnly (D.state disk.old) (D.state disk.new) file (WholeOrClosed gate) }
     ensures cause { HasCause (D.faults disk.old) (D.faults disk.new) result }

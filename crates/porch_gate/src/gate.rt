@@ -1,4 +1,4 @@
-// When a file is open.
+//! When a file is open.
 ghost use Rattle.std.specs.Prelude.{◌≢◌, ◌<◌};
 
 /// A file is open where it has at least so many bytes and its byte 0 is the letter. The letter isn't the byte 0, which

@@ -27,8 +27,8 @@ pub record IsLayout (l : Layout) : Type 0 where
   pub align_pointer : IsAlignmentWithin l.pointer l.align_pointer
   pub least_struct : IsAlignmentWithin 8 l.least_struct
 
--- a layout by its byte order (big or not), the bytes of long and of a pointer, the alignments of short,
--- int, long and pointer, and the least alignment of a struct
+-- a layout by its byte order (big or not), the bytes of long and of a pointer, the alignments of
+-- short, int, long and pointer, and the least alignment of a struct
 abbrev pub layout : Bool → ℕ → ℕ → ℕ → ℕ → ℕ → ℕ → ℕ → Layout
 layout big long pointer short int at_long at_pointer least =
     record {

@@ -75,6 +75,11 @@ pub record BreaksAt (text name : List ℕ) (key : LayoutKey) (rule : LayoutRule)
   pub known : are_layout_keys table ≡ true
   pub first : first_broken table layout_keys ≡ Some (key, rule)
 
+-- the call answers this rule at a key exactly where that key is the first that breaks one
+abbrev pub RefusesAtKeys : Result Layout LayoutFault → LayoutRule → List ℕ → List ℕ → Type 0
+RefusesAtKeys result rule text name =
+    (key : LayoutKey) → RefusesWhere result key rule (BreaksAt text name key rule)
+
 -- the text has a table for the name, with a key that no layout has
 pub record HasUnknownKey (text name : List ℕ) : Type 0 where
   pub table : Members

@@ -1,10 +1,12 @@
+//! Why a layouts file gives no layout.
+
 ghost use Rattle.std.specs.Prelude.{◌≡◌};
 ghost use Rattle.porch_layout.specs.Words.{key_name, rule_name};
 
 use thiserror::Error;
 
-/// What a refusal of a layouts file speaks of: the file, the name asked for, a key that no layout has,
-/// or one of the eight keys of a layout.
+/// What a refusal of a layouts file speaks of: the file, the name asked for, a key that no layout
+/// has, or one of the eight keys of a layout.
 #[derive(Clone, Copy, Debug, PartialEq, Eq)]
 pub enum LayoutKey {
     File,

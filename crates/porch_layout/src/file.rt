@@ -1,11 +1,20 @@
+//! The layouts of a layouts file.
+
 ghost use Rattle.std.specs.Prelude.{◌≡◌, ◌<◌, IfOk, None, length, option_map};
 ghost use Rattle.std.specs.Prelude.{string_bytes};
 ghost use Rattle.std.specs.List.{list_all};
 ghost use Rattle.std.specs.BTreeMap.{keys};
 ghost use Rattle.porch_layout.specs.Layouts.{IsLayout};
-ghost use Rattle.porch_layout.specs.Files.{UnlessMemory, layout_of, layout_in, layout_at, number_in, number_at, order_at, choice_of, are_layout_keys, is_layout_key};
-ghost use Rattle.porch_layout.specs.Rules.{BreaksAt, HasNoTable, HasUnknownKey, IsNotToml, RefusesWhere, Says};
-ghost use Rattle.porch_layout.specs.declared.fault.LayoutKey.{LayoutKey};
+ghost use Rattle.porch_layout.specs.Files.{UnlessMemory, layout_of, layout_in, layout_at};
+ghost use Rattle.porch_layout.specs.Files.{number_in, number_at, order_at, choice_of};
+ghost use Rattle.porch_layout.specs.Files.{are_layout_keys, is_layout_key};
+ghost use Rattle.porch_layout.specs.Rules.{HasNoTable, HasUnknownKey, IsNotToml, Says};
+ghost use Rattle.porch_layout.specs.Rules.{RefusesAtKeys, RefusesWhere};
+ghost use Rattle.porch_layout.specs.declared.fault.LayoutKey.TheVariants.{File, Name, Other};
+ghost use Rattle.porch_layout.specs.declared.fault.LayoutRule.TheVariants.{TooLong, NotToml};
+ghost use Rattle.porch_layout.specs.declared.fault.LayoutRule.TheVariants.{NoName, NotTable};
+ghost use Rattle.porch_layout.specs.declared.fault.LayoutRule.TheVariants.{UnknownKey};
+ghost use Rattle.porch_layout.specs.declared.fault.LayoutRule.TheVariants.{MissingKey, BadValue};
 ghost use Rattle.toml.specs.View.{view, table_view};
 ghost use Rattle.toml.specs.Data.{get_member};
 
@@ -30,13 +39,13 @@ const ALIGNMENTS: [u8; 4] = [1, 2, 4, 8];
 pub fn layout_from(alloc: Global, text: &[u8], name: &str) -> Result<Layout, LayoutFault>
     ensures answer { UnlessMemory result (layout_of text.now name.now) }
     ensures allowed { IfOk result IsLayout }
-    ensures too_long { RefusesWhere result LayoutKey.File LayoutRule.TooLong (65536 < length text.now) }
-    ensures not_toml { RefusesWhere result LayoutKey.File LayoutRule.NotToml (IsNotToml text.now) }
-    ensures no_name { RefusesWhere result LayoutKey.Name LayoutRule.NoName (Says text.now name.now None) }
-    ensures not_table { RefusesWhere result LayoutKey.Name LayoutRule.NotTable (HasNoTable text.now name.now) }
-    ensures unknown_key { RefusesWhere result LayoutKey.Other LayoutRule.UnknownKey (HasUnknownKey text.now name.now) }
-    ensures missing_key { (key : LayoutKey) → RefusesWhere result key LayoutRule.MissingKey (BreaksAt text.now name.now key LayoutRule.MissingKey) }
-    ensures bad_value { (key : LayoutKey) → RefusesWhere result key LayoutRule.BadValue (BreaksAt text.now name.now key LayoutRule.BadValue) }
+    ensures too_long { RefusesWhere result File TooLong (65536 < length text.now) }
+    ensures not_toml { RefusesWhere result File NotToml (IsNotToml text.now) }
+    ensures no_name { RefusesWhere result Name NoName (Says text.now name.now None) }
+    ensures not_table { RefusesWhere result Name NotTable (HasNoTable text.now name.now) }
+    ensures unknown_key { RefusesWhere result Other UnknownKey (HasUnknownKey text.now name.now) }
+    ensures missing_key { RefusesAtKeys result MissingKey text.now name.now }
+    ensures bad_value { RefusesAtKeys result BadValue text.now name.now }
 {
     layout_read(alloc, text, name)
 }

@@ -26,8 +26,8 @@ pub struct Layout {
     pub least_struct: u8,
 }
 
-/// The layout that has this name without a layouts file, one of `le32`, `be32`, `le64`, `be64`, `be32p`
-/// and `le32l`. It takes no memory.
+/// The layout that has this name without a layouts file, one of `le32`, `be32`, `le64`, `be64`,
+/// `be32p` and `le32l`. It takes no memory.
 pub fn built_in(name: &str) -> Option<Layout>
     ensures layout { result ≡ built_in_of name.now }
     ensures allowed { IfSome result IsLayout }

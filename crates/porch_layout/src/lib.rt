@@ -1,7 +1,7 @@
 //! Layouts: the byte order, sizes and alignments under which a program's memory is laid out.
 //!
-//! Start at [`Layout`], then [`built_in`] for the six that have names and [`layout_from`] for those of
-//! a layouts file. The crate stands on `toml` alone.
+//! Start at [`Layout`], then [`built_in`] for the six that have names and [`layout_from`] for those
+//! of a layouts file. The crate stands on `toml` alone.
 #![tactic(auto)]
 
 mod fault;

@@ -1,5 +1,6 @@
 -- An integer or a pointer is one leaf, so leaves lie apart as subobjects do.
-use Rattle.std.proofs.Common.{◌≡◌, ℕ, suc, ◌+◌, ◌*◌, ◌<◌, ◌≤◌, List, length, slice_get, Option, Some, None, refl, arith, ap, ◌∙◌}
+use Rattle.std.proofs.Common.{◌≡◌, ℕ, ◌+◌, ◌*◌, ◌/◌, ◌<◌, ◌≤◌, List, length, slice_get, Option, Some, None, refl, arith, ap, ◌∙◌}
+use Rattle.std.proofs.Math.Nat.{lt-div-mul-add}
 use Rattle.porch_types.specs.declared.shapes.Ty.{Ty}
 use Rattle.porch_types.specs.declared.shapes.Ty.TheVariants.{Whole, Pointer, Array, Struct}
 use Rattle.porch_types.specs.Leaves.{leaves_of}
@@ -10,7 +11,7 @@ use Rattle.porch_layout.specs.Layouts.{IsLayout}
 use Rattle.porch_metrics.specs.Extents.{extent_of, ucf_layout}
 use Rattle.porch_metrics.specs.Places.{place_of}
 use Rattle.porch_metrics.specs.inside.Tables.{AreCounted}
-use Rattle.porch_metrics.proofs.RowsApart.{subobjects_apart}
+use Rattle.porch_metrics.proofs.RowsApart.{one_more, subobjects_apart}
 use Rattle.porch_metrics.proofs.Packed.{subobject_packed}
 
 one_leaf : (types : List Ty) (ty : ℕ) (o : Option Ty) → AreCounted types → slice_get types ty ≡ o → IsScalar o → leaves_of types ty ≡ 1
@@ -19,6 +20,12 @@ one_leaf types ty (Some (Whole kind)) formed at scalar = formed.together ty (Who
 one_leaf types ty (Some (Pointer to)) formed at scalar = formed.together ty (Pointer to) at
 one_leaf types ty (Some (Array of n)) formed at scalar = absurd scalar
 one_leaf types ty (Some (Struct members)) formed at scalar = absurd scalar
+
+-- so many elements hold the leaf
+pub leaf_held : (leaf n : ℕ) → 0 < n → leaf < (leaf / n + 1) * n
+leaf_held leaf n some =
+    let high : leaf < leaf / n * n + n = lt-div-mul-add some in
+    omega (arith, high, one_more (leaf / n) n)
 
 pub leaf_apart : (l : Layout) (types : List Ty) (root count a b ty : ℕ) → IsLayout l → AreCounted types → root < length types → IsScalar (slice_get types ty) → IsSubobject types root count a ty → a < b
     → place_of l types root a + (extent_of l types ty).size ≤ place_of l types root b

@@ -1,5 +1,5 @@
 -- In a UCF file subobjects stand right after each other.
-use Rattle.std.proofs.Common.{◌≡◌, ◌⊎◌, inl, inr, ℕ, zero, suc, ◌+◌, ◌*◌, ◌/◌, ◌-◌, ◌<◌, ◌≤◌, max, nat_lt, true, false, List, [], ◌∷◌, length, get_or, slice_get, Some, refl, arith, ap, sym, ◌∙◌, subst, take, All}
+use Rattle.std.proofs.Common.{◌≡◌, inl, inr, ℕ, zero, suc, ◌+◌, ◌*◌, ◌<◌, nat_lt, true, false, List, [], ◌∷◌, length, get_or, slice_get, Some, refl, arith, ap, sym, ◌∙◌, take, All}
 use Rattle.std.proofs.lemmas.Bool.{ltb-true, ltb-false}
 use Rattle.std.proofs.lemmas.Option.{slice_get_within, slice_get-get_or}
 use Rattle.porch_types.specs.declared.shapes.Kind.{Kind}

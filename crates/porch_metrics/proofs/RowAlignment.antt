@@ -1,5 +1,5 @@
 -- Rows and subobjects begin at multiples of their alignment, and so does their root.
-use Rattle.std.proofs.Common.{◌≡◌, ℕ, zero, suc, ◌+◌, ◌-◌, ◌*◌, ◌/◌, ◌%◌, ◌<◌, ◌≤◌, max, List, [], ◌∷◌, length, get_or, slice_get, Some, refl, arith, ap, sym, ◌∙◌, subst, take}
+use Rattle.std.proofs.Common.{◌≡◌, ℕ, zero, suc, ◌+◌, ◌-◌, ◌*◌, ◌/◌, ◌%◌, ◌<◌, ◌≤◌, List, [], ◌∷◌, length, get_or, slice_get, Some, refl, arith, ap, sym, ◌∙◌, subst, take}
 use Rattle.std.proofs.Math.Nat.{mul-mod_left}
 use Rattle.std.proofs.lemmas.Option.{slice_get_within}
 use Rattle.porch_types.specs.declared.shapes.Ty.{Ty}
@@ -8,7 +8,7 @@ use Rattle.porch_types.specs.Leaves.{leaves_of, leaves_together, IsFormed}
 use Rattle.porch_types.specs.Rows.{IsRow, elements_of_root, elements_of_array, member_of_struct, IsSubobject}
 use Rattle.porch_layout.specs.declared.layout.Layout.{Layout}
 use Rattle.porch_layout.specs.Layouts.{IsLayout}
-use Rattle.porch_metrics.specs.Extents.{Extent, extent_of, round_up, greatest_align, member_places, type_extent}
+use Rattle.porch_metrics.specs.Extents.{Extent, extent_of, round_up, greatest_align, member_places}
 use Rattle.porch_metrics.specs.Places.{place_of}
 use Rattle.porch_metrics.specs.inside.Tables.{AreCounted}
 use Rattle.porch_metrics.proofs.Bounds.{bounded}

@@ -1,17 +1,17 @@
 -- A row begins where its first leaf does, and its leaves stand from there as in the type alone.
-use Rattle.std.proofs.Common.{◌≡◌, ◌⊎◌, inl, inr, ℕ, zero, suc, ◌+◌, ◌-◌, ◌*◌, ◌/◌, ◌%◌, ◌<◌, ◌≤◌, nat_lt, true, false, List, [], ◌∷◌, length, get_or, slice_get, Option, Some, None, refl, arith, ap, sym, ◌∙◌, subst, take}
-use Rattle.std.proofs.lemmas.Bool.{ltb-true, ltb-false, lt-ltb}
+use Rattle.std.proofs.Common.{◌≡◌, ℕ, zero, suc, ◌+◌, ◌-◌, ◌*◌, ◌/◌, ◌%◌, ◌<◌, ◌≤◌, List, [], ◌∷◌, length, get_or, slice_get, Some, refl, arith, ap, sym, ◌∙◌, subst, take}
+use Rattle.std.proofs.lemmas.Bool.{lt-ltb}
 use Rattle.std.proofs.lemmas.Option.{slice_get_within, get_or_from_slice_get}
 use Rattle.std.proofs.lemmas.Nat.{div-mul-add, mod-mul-add}
 use Rattle.std.proofs.Math.Nat.{add-mul-div_right, mul-add-mod_self_right, mod-eq-sub-div-mul, div-lt_iff_lt-mul, mul-le-mul_right}
 use Rattle.porch_types.specs.declared.shapes.Ty.{Ty}
 use Rattle.porch_types.specs.declared.shapes.Ty.TheVariants.{Array, Struct}
 use Rattle.porch_types.specs.declared.parts.Part.{Part}
-use Rattle.porch_types.specs.Leaves.{leaves_of, leaves_together, IsFormed}
-use Rattle.porch_types.specs.Rows.{IsRow, elements_of_root, elements_of_array, member_of_struct, IsSubobject, part_at, part_of, element_at, member_at}
+use Rattle.porch_types.specs.Leaves.{leaves_of, leaves_together}
+use Rattle.porch_types.specs.Rows.{IsRow, elements_of_root, elements_of_array, member_of_struct, IsSubobject, part_at, part_of, element_at}
 use Rattle.porch_layout.specs.declared.layout.Layout.{Layout}
-use Rattle.porch_layout.specs.Layouts.{IsAlignment, IsLayout}
-use Rattle.porch_metrics.specs.Extents.{Extent, extent_of, member_places}
+use Rattle.porch_layout.specs.Layouts.{IsLayout}
+use Rattle.porch_metrics.specs.Extents.{extent_of, member_places}
 use Rattle.porch_metrics.specs.Places.{part_place, place_of, place_within}
 use Rattle.porch_metrics.specs.PlacedRows.{IsPlacedRow, placed_root, placed_elements, placed_member, IsRowAtPlace}
 use Rattle.porch_metrics.specs.inside.Tables.{AreCounted}
@@ -109,9 +109,9 @@ member_down l types ty leaf i m t members part is formed at h one =
     ∙ ap (λ x. get_or places i 0 + place_within (suc m) l types m (leaf - x)) one.begins
 
 -- a leaf of a member stands from the member's place on
-pub member_place : (l : Layout) (types : List Ty) (ty i m j : ℕ) (members : List ℕ) → IsLayout l → AreCounted types → slice_get types ty ≡ Some (Struct members) → slice_get members i ≡ Some m → j < leaves_of types m
+pub member_leaf_place : (l : Layout) (types : List Ty) (ty i m j : ℕ) (members : List ℕ) → IsLayout l → AreCounted types → slice_get types ty ≡ Some (Struct members) → slice_get members i ≡ Some m → j < leaves_of types m
     → place_of l types ty (leaves_together (leaves_of types) (take i members) + j) ≡ get_or (member_places (extent_of l types) 0 members) i 0 + place_of l types m j
-member_place l types ty i m j members is formed at at_i lt =
+member_leaf_place l types ty i m j members is formed at at_i lt =
     let f = leaves_of types in
     let t = leaves_together f (take i members) in
     let count : leaves_of types ty ≡ leaves_together f members = formed.together ty (Struct members) at in
@@ -203,7 +203,7 @@ member_leaf l types root count ty first len k i m j members is formed s lt at at
     let e : begin + t + j ≡ begin + (t + j) = omega arith in
     let a : place_of l types root (begin + (t + j)) ≡ place_of l types root first + k * (extent_of l types ty).size + place_of l types ty (t + j) =
     element_leaf l types root count ty first len k (t + j) formed s lt (omega (arith, less, together_inside f members i m at_i, count_is)) in
-    let b = member_place l types ty i m j members is formed at at_i less in
+    let b = member_leaf_place l types ty i m j members is formed at at_i less in
     ap (place_of l types root) e ∙ omega (arith, a, b)
 
 -- where a member of an element of a row begins
@@ -265,3 +265,12 @@ subobject_leaf l types root count place ty leaf is formed known sub lt =
     let begins = element_begins l types root count ty row.first row.len k is formed s h.element.1 in
     let here = element_leaf l types root count ty row.first row.len k leaf formed s h.element.1 lt in
     omega (arith, begins, here, ap (place_of l types root) at, ap (λ x. place_of l types root (x + leaf)) at)
+
+-- where a member begins
+pub member_first : (l : Layout) (types : List Ty) (ty i m : ℕ) (members : List ℕ) → IsLayout l → AreCounted types → slice_get types ty ≡ Some (Struct members) → slice_get members i ≡ Some m
+    → place_of l types ty (leaves_together (leaves_of types) (take i members)) ≡ get_or (member_places (extent_of l types) 0 members) i 0
+member_first l types ty i m members is formed at at_i =
+    let t = leaves_together (leaves_of types) (take i members) in
+    let known : m < length types = omega (arith, member_known types ty i m members formed at at_i, slice_get_within types ty (Struct members) at) in
+    let z : t + 0 ≡ t = omega arith in
+    omega (arith, ap (place_of l types ty) z, member_leaf_place l types ty i m 0 members is formed at at_i (formed.some m known), zero_place l types m is formed known)

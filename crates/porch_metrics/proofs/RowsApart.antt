@@ -1,12 +1,12 @@
 -- A subobject ends at or before each leaf of its root that follows its last one.
-use Rattle.std.proofs.Common.{◌≡◌, ℕ, zero, suc, ◌+◌, ◌-◌, ◌*◌, ◌<◌, ◌≤◌, nat_lt, true, false, List, [], ◌∷◌, length, get_or, slice_get, Some, refl, arith, ap, sym, ◌∙◌, subst, take}
+use Rattle.std.proofs.Common.{◌≡◌, ℕ, suc, ◌+◌, ◌-◌, ◌*◌, ◌<◌, ◌≤◌, nat_lt, true, false, List, length, get_or, slice_get, Some, refl, arith, ap, sym, ◌∙◌, subst, take}
 use Rattle.std.proofs.lemmas.Bool.{ltb-true, ltb-false}
 use Rattle.std.proofs.lemmas.Option.{slice_get_within}
 use Rattle.porch_types.specs.declared.shapes.Ty.{Ty}
 use Rattle.porch_types.specs.declared.shapes.Ty.TheVariants.{Array, Struct}
 use Rattle.porch_types.specs.declared.parts.Part.{Part}
 use Rattle.porch_types.specs.Leaves.{leaves_of, leaves_together, IsFormed}
-use Rattle.porch_types.specs.Rows.{IsRow, elements_of_root, elements_of_array, member_of_struct, IsSubobject, part_at}
+use Rattle.porch_types.specs.Rows.{IsRow, elements_of_root, elements_of_array, member_of_struct, IsSubobject}
 use Rattle.porch_layout.specs.declared.layout.Layout.{Layout}
 use Rattle.porch_layout.specs.Layouts.{IsAlignment, IsLayout}
 use Rattle.porch_metrics.specs.Extents.{Extent, extent_of, round_up, greatest_align, member_places, members_end, type_extent}

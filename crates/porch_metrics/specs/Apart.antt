@@ -13,15 +13,17 @@ use Rattle.porch_metrics.specs.Places.{part_place, place_of}
 -- later leaves stand at later places
 abbrev pub PlacesRise : Type 0
 PlacesRise =
-    (under : Layout) (types : List Ty) (ty a b : ℕ) → IsLayout under → IsTypes types → ty < length types
-    → a < b → place_of under types ty a < place_of under types ty b
+    (under : Layout) (types : List Ty) (ty a b : ℕ)
+    → IsLayout under → IsTypes types → ty < length types → a < b
+    → place_of under types ty a < place_of under types ty b
 
 -- an element or a member ends inside its array or struct
 abbrev pub PartsLieInside : Type 0
 PartsLieInside =
     (under : Layout) (types : List Ty) (ty leaf : ℕ) (part : Part) → IsLayout under → IsTypes types
     → part_at types ty leaf ≡ Some part
-    → part_place (extent_of under types) (slice_get types ty) part.index + (extent_of under types part.ty).size
+    → part_place (extent_of under types) (slice_get types ty) part.index
+    + (extent_of under types part.ty).size
     ≤ (extent_of under types ty).size
 
 -- a subobject ends at or before each leaf that follows its last one
@@ -30,18 +32,22 @@ SubobjectsLieApart =
     (under : Layout) (types : List Ty) (root count place ty leaf : ℕ)
     → IsLayout under → IsTypes types → root < length types → IsSubobject types root count place ty
     → place + leaves_of types ty ≤ leaf
-    → place_of under types root place + (extent_of under types ty).size ≤ place_of under types root leaf
+    → place_of under types root place + (extent_of under types ty).size
+    ≤ place_of under types root leaf
 
 -- a leaf ends at or before the next one
 abbrev pub LeavesLieApart : Type 0
 LeavesLieApart =
-    (under : Layout) (types : List Ty) (ty a b : ℕ) → IsLayout under → IsTypes types → ty < length types → a < b
-    → place_of under types ty a + (extent_of under types (leaf_type types ty a)).size ≤ place_of under types ty b
+    (under : Layout) (types : List Ty) (ty a b : ℕ)
+    → IsLayout under → IsTypes types → ty < length types → a < b
+    → place_of under types ty a + (extent_of under types (leaf_type types ty a)).size
+    ≤ place_of under types ty b
 
 -- in a UCF file the leaf after a subobject begins where the subobject ends
 abbrev pub SubobjectsArePacked : Type 0
 SubobjectsArePacked =
-    (types : List Ty) (root count place ty : ℕ) → IsTypes types → root < length types → IsSubobject types root count place ty
+    (types : List Ty) (root count place ty : ℕ)
+    → IsTypes types → root < length types → IsSubobject types root count place ty
     → place_of ucf_layout types root (place + leaves_of types ty)
     ≡ place_of ucf_layout types root place + (extent_of ucf_layout types ty).size
 
@@ -50,4 +56,5 @@ abbrev pub LeavesArePacked : Type 0
 LeavesArePacked =
     (types : List Ty) (ty leaf : ℕ) → IsTypes types → ty < length types
     → place_of ucf_layout types ty (leaf + 1)
-    ≡ place_of ucf_layout types ty leaf + (extent_of ucf_layout types (leaf_type types ty leaf)).size
+    ≡ place_of ucf_layout types ty leaf
+    + (extent_of ucf_layout types (leaf_type types ty leaf)).size

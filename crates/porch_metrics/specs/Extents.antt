@@ -30,27 +30,35 @@ round_up place align = (place + (align - 1)) / align * align
 -- the greatest of the members' alignments and the least that a struct has
 abbrev pub greatest_align : (ℕ → Extent) → ℕ → List ℕ → ℕ
 greatest_align extents least [] = least
-greatest_align extents least (ty ∷ rest) = max (extents ty).align (greatest_align extents least rest)
+greatest_align extents least (ty ∷ rest) =
+    max (extents ty).align (greatest_align extents least rest)
 
--- where each member begins: the lowest multiple of its alignment at or after the end of the one before
+-- where each member begins: the lowest multiple of its alignment at or after the end of the one
+-- before
 abbrev pub member_places : (ℕ → Extent) → ℕ → List ℕ → List ℕ
 member_places extents end [] = []
 member_places extents end (ty ∷ rest) =
-    round_up end (extents ty).align ∷ member_places extents (round_up end (extents ty).align + (extents ty).size) rest
+    round_up end (extents ty).align
+    ∷ member_places extents (round_up end (extents ty).align + (extents ty).size) rest
 
 -- where the last member ends
 abbrev pub members_end : (ℕ → Extent) → ℕ → List ℕ → ℕ
 members_end extents end [] = end
-members_end extents end (ty ∷ rest) = members_end extents (round_up end (extents ty).align + (extents ty).size) rest
+members_end extents end (ty ∷ rest) =
+    members_end extents (round_up end (extents ty).align + (extents ty).size) rest
 
 -- the extent of a type whose parts have these extents
 abbrev pub type_extent : Layout → (ℕ → Extent) → Ty → Extent
 type_extent under extents (Whole kind) = kind_extent under kind
-type_extent under extents (Pointer to) = record { size = under.pointer; align = under.align_pointer }
-type_extent under extents (Array of count) = record { size = count * (extents of).size; align = (extents of).align }
+type_extent under extents (Pointer to) =
+    record { size = under.pointer; align = under.align_pointer }
+type_extent under extents (Array of count) =
+    record { size = count * (extents of).size; align = (extents of).align }
 type_extent under extents (Struct members) =
     record {
-      size = round_up (members_end extents 0 members) (greatest_align extents under.least_struct members);
+      size =
+          round_up (members_end extents 0 members)
+          (greatest_align extents under.least_struct members);
       align = greatest_align extents under.least_struct members;
     }
 
@@ -61,7 +69,8 @@ extent_in extents ty = slice_index_or extents ty (record { size = 0; align = 1 }
 -- the extent of each further type, where the types before it have these
 abbrev pub extents_from : Layout → List Extent → List Ty → List Extent
 extents_from under before [] = before
-extents_from under before (ty ∷ rest) = extents_from under (before ++ type_extent under (extent_in before) ty ∷ []) rest
+extents_from under before (ty ∷ rest) =
+    extents_from under (before ++ type_extent under (extent_in before) ty ∷ []) rest
 
 -- the extents of the types of a list, from the first type on
 abbrev pub extents_of : Layout → List Ty → List Extent
@@ -71,6 +80,7 @@ extents_of under types = extents_from under [] types
 abbrev pub extent_of : Layout → List Ty → ℕ → Extent
 extent_of under types ty = extent_in (extents_of under types) ty
 
--- UCF files pack leaves with no bytes between them, in 1, 2, 4 or 8 bytes by their kind and 8 for a pointer
+-- UCF files pack leaves with no bytes between them, in 1, 2, 4 or 8 bytes by their kind and 8 for a
+-- pointer
 abbrev pub ucf_layout : Layout
 ucf_layout = layout true 8 8 1 1 1 1 1

@@ -7,14 +7,14 @@ ghost use Rattle.porch_metrics.specs.Bounds.{ExtentsAreBounded, PlacesAreBounded
 ghost use Rattle.porch_metrics.specs.Bounds.{ElementsHavePlaces, ElementsAreAligned, RoundsUpLeast};
 ghost use Rattle.porch_metrics.specs.PlacedRows.{RowsHavePlaces, PlacesAreOfRows};
 ghost use Rattle.porch_metrics.specs.PlacedRows.{LeavesStandInRows, ElementsStandInRows};
-ghost use Rattle.porch_metrics.specs.PlacedRows.{LeavesStandInSubobjects};
+ghost use Rattle.porch_metrics.specs.PlacedRows.{LeavesStandInSubobjects, MembersHavePlaces};
 ghost use Rattle.porch_metrics.specs.PlacedRows.{SubobjectsAreAligned, RootsAreAligned};
 ghost use Rattle.porch_metrics.specs.Apart.{PlacesRise, PartsLieInside, SubobjectsLieApart};
-ghost use Rattle.porch_metrics.specs.Apart.{SubobjectsArePacked};
+ghost use Rattle.porch_metrics.specs.Apart.{LeavesLieApart, SubobjectsArePacked, LeavesArePacked};
 ghost use Rattle.porch_metrics.specs.AddingUp.{ExtentsAddUp, ArraysAddUp, PointersAreAlike};
 ghost use Rattle.porch_metrics.specs.AddingUp.{ExtentsStay, PlacesStay};
 
-use porch_types::{earlier_types_stay, leaves_add_up};
+use porch_types::{earlier_types_stay, leaves_add_up, leaves_are_scalars};
 
 /// The layout whose places are those of a UCF file is one that may be used.
 pub fn ucf_is_a_layout()
@@ -72,11 +72,27 @@ pub fn subobjects_lie_apart()
     leaves_add_up();
 }
 
+/// A leaf ends at or before the next one.
+pub fn leaves_lie_apart()
+    ensures { LeavesLieApart }
+{
+    leaves_add_up();
+    leaves_are_scalars();
+}
+
 /// In a UCF file the leaf after a subobject begins where the subobject ends.
 pub fn ucf_subobjects_are_packed()
     ensures { SubobjectsArePacked }
 {
     leaves_add_up();
+}
+
+/// In a UCF file each leaf begins where the one before it ends.
+pub fn ucf_leaves_are_packed()
+    ensures { LeavesArePacked }
+{
+    leaves_add_up();
+    leaves_are_scalars();
 }
 
 /// Elements stand at their size times their number, which is a multiple of their alignment.
@@ -100,6 +116,7 @@ pub fn places_add_up()
     ensures leaves { LeavesStandInRows }
     ensures elements { ElementsStandInRows }
     ensures subobjects { LeavesStandInSubobjects }
+    ensures members { MembersHavePlaces }
 {
     leaves_add_up();
 }

@@ -1,83 +1,58 @@
 -- Runs of calls on the output's file, told or not.
 use Rattle.std.proofs.Common.{◌≡◌, ⊎_elim, ℕ, ◌+◌, List, ◌++◌, length, take, sym, ◌∙◌, ap, arith, Result, [], append_assoc, length-append}
 use Rattle.std.proofs.lemmas.List.{append-nil}
-use Rattle.std.specs.declared.option.Option.{Option}
-use Rattle.std.specs.declared.option.Option.TheVariants.{Some, None}
 use Rattle.std.specs.declared.result.Result.TheVariants.{Ok}
 use Rattle.porch_edge.specs.declared.disk.FileName.TheVariants.{Output as OutputFile}
 use Rattle.porch_edge.specs.declared.failed.Failed.{Failed}
-use Rattle.porch_edge.specs.Files.{Files, written, Shortened, Marred}
-use Rattle.porch_edge.specs.Disk.{DiskState, Moment, IsBy, WhenTold, WhereTold, BothTell, IsSettled, WriteStep, CutStep, SyncStep, TornWrite, Touches}
-use Rattle.porch_edge.proofs.Runs.{when_told, told_at, tells_on, silent_on, both_by, Going, begins, goes_stays, goes_alters, touches}
+use Rattle.porch_edge.specs.Files.{Files}
+use Rattle.porch_edge.specs.Disk.{DiskState, Moment, IsBy, WhereTold, BothTell, IsSettled, WriteStep, CutStep, SyncStep}
+use Rattle.porch_edge.specs.Told.{when_told, told_at, tells_on, silent_on, both_by, second_told}
+use Rattle.porch_edge.specs.Runs.{OnlyNow, run_begins, run_write, run_cut, run_sync, run_touches, touches_run}
 use Rattle.porch_output.specs.Outputs.{BeginsWith, LeavesBeginning, KeepsBeginning, BeginsSince}
 use Rattle.porch_output.proofs.Begins.{begins_itself, torn, shortened, marred, fewer, appended}
 
 -- what the laws of a disk say of one state
-abbrev pub OnlyNow : DiskState → Type 0
-OnlyNow s = WhereTold s (λ _. (c : Files) → s.since s.moment c → s.leaves c)
-
 abbrev pub CountsNow : DiskState → Type 0
 CountsNow s = WhereTold s (λ _. (t : Moment) (c : Files) → IsBy t s.moment → s.leaves c → s.since t c)
 
 abbrev pub ReadsLeave : DiskState → Type 0
 ReadsLeave s = WhereTold s (λ fs. s.leaves fs)
 
-second_told : (o p : Option Files) (P : Files → Type 0) → BothTell o p (λ _ gs. P gs) → WhenTold p P
-second_told None None P told = tt
-second_told None (Some gs) P told = absurd told
-second_told (Some fs) None P told = absurd told
-second_told (Some fs) (Some gs) P told = told
-
-going : (s0 s : DiskState) (fs gs : Files) (N : List ℕ → Type 0) → Touches s0 s fs gs OutputFile N → Going s0 s fs gs OutputFile N N
-going s0 s fs gs N run = record { others = run.others; now = run.now; moments = run.moments }
+-- the file begins with these bytes, whatever it had
+abbrev Begins : List ℕ → List ℕ → List ℕ → Type 0
+Begins kept old x = BeginsWith kept x
 
 -- no call yet
 pub starts : (s : DiskState) (kept : List ℕ) → OnlyNow s → LeavesBeginning kept s → KeepsBeginning kept s s
-starts s kept only leaves = both_by s.files s.files _ (λ none. none) (λ fs is.
-    let N : List ℕ → Type 0 = λ x. BeginsWith kept x in
-    let left = told_at s.files fs (λ _. (c : Files) → s.leaves c → BeginsWith kept c.output) is leaves in
-    let now = told_at s.files fs (λ _. (c : Files) → s.since s.moment c → s.leaves c) is only in
-    (fs, is, touches s fs OutputFile s fs N N (λ x n. n) (begins s fs OutputFile N N left (λ x n. n) now)))
+starts s kept only leaves = run_touches s s OutputFile (Begins kept) (Begins kept) (λ old x n. n) (run_begins s OutputFile (Begins kept) (Begins kept) (λ old x n. n) only leaves)
 
 -- a write at the end
 pub writes : (s0 s t : DiskState) (kept bytes : List ℕ) (at : ℕ) (r : Result (Unit {0}) Failed) → ReadsLeave s → WhereTold s (λ fs. at ≡ length fs.output) → WriteStep s t OutputFile at bytes r → KeepsBeginning kept s0 s
     → KeepsBeginning kept s0 t
-writes s0 s t kept bytes at r reads ends write run = both_by s0.files t.files _ (λ none. silent_on s.files t.files _ (silent_on s0.files s.files _ none run) write) (λ fs is.
-    let N : List ℕ → Type 0 = λ x. BeginsWith kept x in
+writes s0 s t kept bytes at r reads ends write run =
+    let F : List ℕ → Type 0 = λ now. (at ≡ length now) × BeginsWith kept now in
+    let facts : WhereTold s (λ gs. F gs.output) = second_told s0.files s.files (λ gs. F gs.output) (both_by s0.files s.files _ (λ none. silent_on s0.files s.files _ none run) (λ fs is.
     let a = tells_on s0.files s.files _ fs is run in
-    let gs = a.0 in
-    let b = tells_on s.files t.files _ gs a.1 write in
-    let end : at ≡ length gs.output = told_at s.files gs (λ f. at ≡ length f.output) a.1 ends in
-    let there : BeginsWith kept gs.output = (a.2.now gs (told_at s.files gs (λ f. s.leaves f) a.1 reads)).2.bytes in
-    let step : (x y : List ℕ) → N x → TornWrite gs.output at bytes x y → N y = λ x y n w. torn kept gs.output x y at end there w.before n in (
-      b.0,
-      b.1,
-      touches s0 fs OutputFile t b.0 N N (λ x n. n)
-          (goes_alters s0 fs OutputFile s t gs b.0 N N N (written gs.output at bytes) (TornWrite gs.output at bytes) (TornWrite gs.output at bytes) r (going s0 s fs gs N a.2) b.2.0 step step (λ x n. n)),
-    ))
+    let end : at ≡ length a.0.output = told_at s.files a.0 (λ f. at ≡ length f.output) a.1 ends in
+    let there : BeginsWith kept a.0.output = (a.2.now a.0 (told_at s.files a.0 (λ f. s.leaves f) a.1 reads)).2.bytes in
+    (a.0, a.1, (end, there)))) in
+    run_touches s0 t OutputFile (Begins kept) (Begins kept) (λ old x n. n)
+    (run_write s0 s t OutputFile at bytes r F (Begins kept) (Begins kept) (Begins kept) facts (λ old now x y fact n w. torn kept now x y at fact.0 fact.1 w.before n) (λ old x n. n)
+    (touches_run s0 s OutputFile (Begins kept) run) write)
 
 -- a sync
 pub syncs : (s0 s t : DiskState) (kept : List ℕ) (r : Result (Unit {0}) Failed) → SyncStep s t OutputFile r → KeepsBeginning kept s0 s → KeepsBeginning kept s0 t
-syncs s0 s t kept r sync run = both_by s0.files t.files _ (λ none. silent_on s.files t.files _ (silent_on s0.files s.files _ none run) sync) (λ fs is.
-    let N : List ℕ → Type 0 = λ x. BeginsWith kept x in
-    let a = tells_on s0.files s.files _ fs is run in
-    let b = tells_on s.files t.files _ a.0 a.1 sync in
-    (b.0, b.1, touches s0 fs OutputFile t b.0 N N (λ x n. n) (goes_stays s0 fs OutputFile s t a.0 b.0 N N (going s0 s fs a.0 N a.2) b.2.0 (λ x n. n))))
+syncs s0 s t kept r sync run = run_touches s0 t OutputFile (Begins kept) (Begins kept) (λ old x n. n)
+    (run_sync s0 s t OutputFile r (Begins kept) (Begins kept) (λ old x n. n) (touches_run s0 s OutputFile (Begins kept) run) sync)
 
 -- a first cut
 pub cuts : (s t : DiskState) (kept : List ℕ) (len : ℕ) (r : Result (Unit {0}) Failed) → OnlyNow s → LeavesBeginning kept s → CutStep s t OutputFile len r → KeepsBeginning (take len kept) s t
-cuts s t kept len r only leaves cut = both_by s.files t.files _ (λ none. silent_on s.files t.files _ none cut) (λ fs is.
-    let N : List ℕ → Type 0 = λ x. BeginsWith kept x in
-    let M : List ℕ → Type 0 = λ x. BeginsWith (take len kept) x in
-    let left = told_at s.files fs (λ _. (c : Files) → s.leaves c → BeginsWith kept c.output) is leaves in
-    let now = told_at s.files fs (λ _. (c : Files) → s.since s.moment c → s.leaves c) is only in
-    let a = tells_on s.files t.files _ fs is cut in (
-      a.0,
-      a.1,
-      touches s fs OutputFile t a.0 M M (λ x m. m)
-          (goes_alters s fs OutputFile s t fs a.0 N M M (take len fs.output) (Shortened len) (Marred len) r (begins s fs OutputFile N M left (λ x n. fewer len kept x n) now) a.2.0
-          (λ x y n short. shortened len kept x y n short) (λ x y n mar. marred len kept x y n mar) (λ x m. m)),
-    ))
+cuts s t kept len r only leaves cut =
+    let N = Begins kept in
+    let M = Begins (take len kept) in
+    run_touches s t OutputFile M M (λ old x m. m)
+    (run_cut s s t OutputFile len r N M M (λ old x y n short. shortened len kept x y n short) (λ old x y n mar. marred len kept x y n mar) (λ old x m. m)
+    (run_begins s OutputFile N M (λ old x n. fewer len kept x n) only leaves) cut)
 
 -- what has begun so since a moment does so all along, by what each call keeps
 pub lasts : (s t : DiskState) (kept less : List ℕ) (mark : Moment) → CountsNow s → ((x : List ℕ) → BeginsWith kept x → BeginsWith less x) → (LeavesBeginning kept s → KeepsBeginning less s t)

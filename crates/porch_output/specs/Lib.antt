@@ -1,2 +1,5 @@
+-- Contents, in reading order.
+-- what an output stands for on a disk, and what a crash leaves of its file
 pub mod Outputs
+-- what a buffer in front of a sink has passed on
 pub mod Shows

@@ -1,4 +1,4 @@
-// The buffer that is filled before it is written.
+//! The buffer that is filled before it is written.
 ghost use Rattle.std.specs.Prelude.{◌≡◌, ◌-◌, ◌++◌, length, take, min};
 
 use arrayvec::ArrayVec;

@@ -1,4 +1,4 @@
-// The output file of a disk.
+//! The output file of a disk.
 ghost use Rattle.std.specs.Prelude.{◌≢◌, ◌<◌, ◌≤◌, ◌^◌, length, true};
 
 use crate::buffer::take_front;
@@ -31,7 +31,9 @@ impl Output {
         ensures empty { IfOk result (λ output. waiting output ≡ []) }
         ensures usable { IfOk result (λ output. ¬ IsSpent output) }
         ensures stable { OnOk result (IsSettled (D.state disk.new) OutputFile) }
-        ensures begins { OnOk result (WhereTold (D.state disk.new) (λ fs. BeginsSince fs.output (D.state disk.new).moment (D.state disk.new))) }
+        ensures begins { OnOk result
+            (WhereTold (D.state disk.new)
+            (λ fs. BeginsSince fs.output (D.state disk.new).moment (D.state disk.new))) }
         ensures looks { OnlyLooks (D.state disk.old) (D.state disk.new) }
         ensures cause { HasCause (D.faults disk.old) (D.faults disk.new) result }
     {
@@ -63,13 +65,18 @@ impl Output {
     pub fn put<D: Disk>(&mut self, disk: &mut D, bytes: &[u8]) -> Result<(), Failed>
         requires usable { ¬ IsSpent self.old }
         requires ready { IsReady self.old (D.state disk.old) }
-        ensures text { OnOk result (BothTell (D.state disk.old).files (D.state disk.new).files (λ fs gs. text_of self.new gs ≡ text_of self.old fs ++ bytes.now)) }
+        ensures text { OnOk result
+            (BothTell (D.state disk.old).files (D.state disk.new).files
+            (λ fs gs. text_of self.new gs ≡ text_of self.old fs ++ bytes.now)) }
         ensures length { OnOk result (length_of self.new ≡ length_of self.old + length bytes.now) }
         ensures ready { OnOk result (IsReady self.new (D.state disk.new)) }
         ensures usable { OnOk result (¬ IsSpent self.new) }
         ensures spent { OnErr result (IsSpent self.new) }
-        ensures keeps { (kept : List ℕ) → LeavesBeginning kept (D.state disk.old) → KeepsBeginning kept (D.state disk.old) (D.state disk.new) }
-        ensures since { (kept : List ℕ) (mark : Moment) → WhereTold (D.state disk.old) (λ _. BeginsSince kept mark (D.state disk.old)) → WhereTold (D.state disk.new) (λ _. BeginsSince kept mark (D.state disk.new)) }
+        ensures keeps { (kept : List ℕ) → LeavesBeginning kept (D.state disk.old)
+            → KeepsBeginning kept (D.state disk.old) (D.state disk.new) }
+        ensures since { (kept : List ℕ) (mark : Moment)
+            → WhereTold (D.state disk.old) (λ _. BeginsSince kept mark (D.state disk.old))
+            → WhereTold (D.state disk.new) (λ _. BeginsSince kept mark (D.state disk.new)) }
         ensures cause { HasCause (D.faults disk.old) (D.faults disk.new) result }
     {
         let mut taken = 0;
@@ -86,12 +93,16 @@ impl Output {
         requires some { 0 < length bytes.now }
         ensures some { IfOk result (λ count. 0 < count) }
         ensures within { IfOk result (λ count. count ≤ length bytes.now) }
-        ensures text { IfOk result (λ count. BothTell (D.state disk.old).files (D.state disk.new).files (λ fs gs. text_of self.new gs ≡ text_of self.old fs ++ take count bytes.now)) }
+        ensures text { IfOk result
+            (λ count. BothTell (D.state disk.old).files (D.state disk.new).files
+            (λ fs gs. text_of self.new gs ≡ text_of self.old fs ++ take count bytes.now)) }
         ensures length { IfOk result (λ count. length_of self.new ≡ length_of self.old + count) }
         ensures ready { OnOk result (IsReady self.new (D.state disk.new)) }
         ensures usable { OnOk result (¬ IsSpent self.new) }
         ensures spent { OnErr result (IsSpent self.new) }
-        ensures keeps { (start : D) (kept : List ℕ) → KeepsBeginning kept (D.state start) (D.state disk.old) → KeepsBeginning kept (D.state start) (D.state disk.new) }
+        ensures keeps { (start : D) (kept : List ℕ)
+            → KeepsBeginning kept (D.state start) (D.state disk.old)
+            → KeepsBeginning kept (D.state start) (D.state disk.new) }
         ensures cause { HasCause (D.faults disk.old) (D.faults disk.new) result }
     {
         self.spent = true;
@@ -106,13 +117,17 @@ impl Output {
     // Writes what waits behind the end of the file, and nothing where nothing waits.
     fn write_out<D: Disk>(&mut self, disk: &mut D) -> Result<(), Failed>
         requires ready { IsReady self.old (D.state disk.old) }
-        ensures written { OnOk result (BothTell (D.state disk.old).files (D.state disk.new).files (λ fs gs. gs.output ≡ fs.output ++ waiting self.old)) }
+        ensures written { OnOk result
+            (BothTell (D.state disk.old).files (D.state disk.new).files
+            (λ fs gs. gs.output ≡ fs.output ++ waiting self.old)) }
         ensures length { OnOk result (length_of self.new ≡ length_of self.old) }
         ensures empty { OnOk result (waiting self.new ≡ []) }
         ensures ready { OnOk result (IsReady self.new (D.state disk.new)) }
         ensures usable { OnOk result (¬ IsSpent self.new) }
         ensures spent { OnErr result (IsSpent self.new) }
-        ensures keeps { (start : D) (kept : List ℕ) → KeepsBeginning kept (D.state start) (D.state disk.old) → KeepsBeginning kept (D.state start) (D.state disk.new) }
+        ensures keeps { (start : D) (kept : List ℕ)
+            → KeepsBeginning kept (D.state start) (D.state disk.old)
+            → KeepsBeginning kept (D.state start) (D.state disk.new) }
         ensures cause { HasCause (D.faults disk.old) (D.faults disk.new) result }
     {
         if self.buffer.is_empty() {
@@ -131,16 +146,23 @@ impl Output {
     pub fn flush<D: Disk>(&mut self, disk: &mut D) -> Result<(), Failed>
         requires usable { ¬ IsSpent self.old }
         requires ready { IsReady self.old (D.state disk.old) }
-        ensures text { OnOk result (BothTell (D.state disk.old).files (D.state disk.new).files (λ fs gs. gs.output ≡ text_of self.old fs)) }
+        ensures text { OnOk result
+            (BothTell (D.state disk.old).files (D.state disk.new).files
+            (λ fs gs. gs.output ≡ text_of self.old fs)) }
         ensures length { OnOk result (length_of self.new ≡ length_of self.old) }
         ensures empty { OnOk result (waiting self.new ≡ []) }
         ensures stable { OnOk result (IsSettled (D.state disk.new) OutputFile) }
-        ensures begins { OnOk result (WhereTold (D.state disk.new) (λ fs. BeginsSince fs.output (D.state disk.new).moment (D.state disk.new))) }
+        ensures begins { OnOk result
+            (WhereTold (D.state disk.new)
+            (λ fs. BeginsSince fs.output (D.state disk.new).moment (D.state disk.new))) }
         ensures ready { OnOk result (IsReady self.new (D.state disk.new)) }
         ensures usable { OnOk result (¬ IsSpent self.new) }
         ensures spent { OnErr result (IsSpent self.new) }
-        ensures keeps { (kept : List ℕ) → LeavesBeginning kept (D.state disk.old) → KeepsBeginning kept (D.state disk.old) (D.state disk.new) }
-        ensures since { (kept : List ℕ) (mark : Moment) → WhereTold (D.state disk.old) (λ _. BeginsSince kept mark (D.state disk.old)) → WhereTold (D.state disk.new) (λ _. BeginsSince kept mark (D.state disk.new)) }
+        ensures keeps { (kept : List ℕ) → LeavesBeginning kept (D.state disk.old)
+            → KeepsBeginning kept (D.state disk.old) (D.state disk.new) }
+        ensures since { (kept : List ℕ) (mark : Moment)
+            → WhereTold (D.state disk.old) (λ _. BeginsSince kept mark (D.state disk.old))
+            → WhereTold (D.state disk.new) (λ _. BeginsSince kept mark (D.state disk.new)) }
         ensures cause { HasCause (D.faults disk.old) (D.faults disk.new) result }
     {
         self.write_out(disk)?;
@@ -156,16 +178,23 @@ impl Output {
         requires ready { IsReady self.old (D.state disk.old) }
         requires empty { waiting self.old ≡ [] }
         requires within { to ≤ length_of self.old }
-        ensures text { OnOk result (HasNow (D.state disk.old) (D.state disk.new) OutputFile (take to)) }
+        ensures text { OnOk result
+            (HasNow (D.state disk.old) (D.state disk.new) OutputFile (take to)) }
         ensures length { OnOk result (length_of self.new ≡ to) }
         ensures empty { OnOk result (waiting self.new ≡ []) }
         ensures stable { OnOk result (IsSettled (D.state disk.new) OutputFile) }
-        ensures begins { OnOk result (WhereTold (D.state disk.new) (λ fs. BeginsSince fs.output (D.state disk.new).moment (D.state disk.new))) }
+        ensures begins { OnOk result
+            (WhereTold (D.state disk.new)
+            (λ fs. BeginsSince fs.output (D.state disk.new).moment (D.state disk.new))) }
         ensures ready { OnOk result (IsReady self.new (D.state disk.new)) }
         ensures usable { OnOk result (¬ IsSpent self.new) }
         ensures spent { OnErr result (IsSpent self.new) }
-        ensures keeps { (kept : List ℕ) → LeavesBeginning kept (D.state disk.old) → KeepsBeginning (take to kept) (D.state disk.old) (D.state disk.new) }
-        ensures since { (kept : List ℕ) (mark : Moment) → WhereTold (D.state disk.old) (λ _. BeginsSince kept mark (D.state disk.old)) → WhereTold (D.state disk.new) (λ _. BeginsSince (take to kept) mark (D.state disk.new)) }
+        ensures keeps { (kept : List ℕ) → LeavesBeginning kept (D.state disk.old)
+            → KeepsBeginning (take to kept) (D.state disk.old) (D.state disk.new) }
+        ensures since { (kept : List ℕ) (mark : Moment)
+            → WhereTold (D.state disk.old) (λ _. BeginsSince kept mark (D.state disk.old))
+            → WhereTold (D.state disk.new)
+            (λ _. BeginsSince (take to kept) mark (D.state disk.new)) }
         ensures cause { HasCause (D.faults disk.old) (D.faults disk.new) result }
     {
         let file = FileName::Output;

@@ -1,4 +1,4 @@
-// The buffer in front of a sink.
+//! The buffer in front of a sink.
 ghost use Rattle.std.specs.Prelude.{◌≢◌, ◌<◌, length, true};
 
 use crate::buffer::take_front;
@@ -42,8 +42,11 @@ impl Shown {
     /// a beginning of what was put then.
     pub fn put<O: Sink>(&mut self, out: &mut O, bytes: &[u8]) -> Result<(), Failed>
         requires { ¬ IsSpent self.old }
-        ensures passed { OnOk result (PassesOn (O.held out.old) (O.held out.new) (waiting self.old ++ bytes.now) (waiting self.new)) }
-        ensures failed { OnErr result (GrewByPrefix (O.held out.old) (O.held out.new) (waiting self.old ++ bytes.now)) }
+        ensures passed { OnOk result
+            (PassesOn (O.held out.old) (O.held out.new)
+            (waiting self.old ++ bytes.now) (waiting self.new)) }
+        ensures failed { OnErr result
+            (GrewByPrefix (O.held out.old) (O.held out.new) (waiting self.old ++ bytes.now)) }
         ensures usable { OnOk result (¬ IsSpent self.new) }
         ensures spent { OnErr result (IsSpent self.new) }
         ensures cause { HasCause (O.faults out.old) (O.faults out.new) result }
@@ -61,8 +64,11 @@ impl Shown {
         requires some { 0 < length bytes.now }
         ensures some { IfOk result (λ count. 0 < count) }
         ensures within { IfOk result (λ count. count ≤ length bytes.now) }
-        ensures passed { IfOk result (λ count. PassesOn (O.held out.old) (O.held out.new) (waiting self.old ++ take count bytes.now) (waiting self.new)) }
-        ensures failed { OnErr result (GrewByPrefix (O.held out.old) (O.held out.new) (waiting self.old ++ bytes.now)) }
+        ensures passed { IfOk result
+            (λ count. PassesOn (O.held out.old) (O.held out.new)
+            (waiting self.old ++ take count bytes.now) (waiting self.new)) }
+        ensures failed { OnErr result
+            (GrewByPrefix (O.held out.old) (O.held out.new) (waiting self.old ++ bytes.now)) }
         ensures usable { OnOk result (¬ IsSpent self.new) }
         ensures spent { OnErr result (IsSpent self.new) }
         ensures cause { HasCause (O.faults out.old) (O.faults out.new) result }
@@ -78,9 +84,11 @@ impl Shown {
 
     // Passes on what waits.
     fn flush_all<O: Sink>(&mut self, out: &mut O) -> Result<(), Failed>
-        ensures passed { OnOk result (PassesOn (O.held out.old) (O.held out.new) (waiting self.old) []) }
+        ensures passed { OnOk result
+            (PassesOn (O.held out.old) (O.held out.new) (waiting self.old) []) }
         ensures empty { OnOk result (waiting self.new ≡ []) }
-        ensures failed { OnErr result (GrewByPrefix (O.held out.old) (O.held out.new) (waiting self.old)) }
+        ensures failed { OnErr result
+            (GrewByPrefix (O.held out.old) (O.held out.new) (waiting self.old)) }
         ensures usable { OnOk result (¬ IsSpent self.new) }
         ensures spent { OnErr result (IsSpent self.new) }
         ensures cause { HasCause (O.faults out.old) (O.faults out.new) result }
@@ -95,9 +103,11 @@ impl Shown {
     /// Passes on what waits. `Failed` only where the sink failed.
     pub fn flush<O: Sink>(&mut self, out: &mut O) -> Result<(), Failed>
         requires { ¬ IsSpent self.old }
-        ensures passed { OnOk result (PassesOn (O.held out.old) (O.held out.new) (waiting self.old) []) }
+        ensures passed { OnOk result
+            (PassesOn (O.held out.old) (O.held out.new) (waiting self.old) []) }
         ensures empty { OnOk result (waiting self.new ≡ []) }
-        ensures failed { OnErr result (GrewByPrefix (O.held out.old) (O.held out.new) (waiting self.old)) }
+        ensures failed { OnErr result
+            (GrewByPrefix (O.held out.old) (O.held out.new) (waiting self.old)) }
         ensures usable { OnOk result (¬ IsSpent self.new) }
         ensures spent { OnErr result (IsSpent self.new) }
         ensures cause { HasCause (O.faults out.old) (O.faults out.new) result }

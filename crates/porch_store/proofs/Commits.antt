@@ -6,8 +6,9 @@ use Rattle.std.specs.declared.option.Option.TheVariants.{Some}
 use Rattle.porch_edge.specs.declared.disk.FileName.{FileName}
 use Rattle.porch_edge.specs.Files.{Files, file_of}
 use Rattle.porch_edge.specs.Disk.{DiskState, WhereTold, BothTell, ButFor, TouchesOnly, LeavesOnly, HasNow}
-use Rattle.porch_edge.proofs.Index.{own_bytes}
-use Rattle.porch_edge.proofs.Runs.{when_told, told_at, tells_on, silent_on, both_by}
+use Rattle.porch_edge.specs.OneFile.{own_bytes}
+use Rattle.porch_edge.specs.Told.{when_told, told_at, tells_on, silent_on, both_by, second_told}
+use Rattle.porch_edge.specs.Runs.{leaves_weakens, touches_weaken, touches_join, now_joins, now_is, now_has}
 use Rattle.porch_gate.specs.declared.gate.Gate.{Gate}
 use Rattle.porch_gate.specs.Gates as gates
 use Rattle.porch_gate.specs.Gates.{closed_bytes, filled_bytes, opened_bytes, HasNoLetter, OldOrClosed, WholeOrClosed}
@@ -16,7 +17,6 @@ use Rattle.porch_store.specs.declared.store.Newest.TheVariants.{One, Tie}
 use Rattle.porch_store.specs.declared.store.Store.{Store}
 use Rattle.porch_store.specs.Checkpoints.{IsOpen, IsNewest, number_of}
 use Rattle.porch_store.specs.Stores.{newest_known, number_known, newest_number, Knows, IsReady, older_of, IsBelow, OldClosedOrWhole, is_old, is_closed, is_whole, KeepsNewest, IsNew}
-use Rattle.porch_store.proofs.Told.{second_told, leaves_weakens, says_less, goes_on, now_joins, now_is, now_has}
 use Rattle.porch_store.proofs.Ranks.{newer_of, beyond_both, stays, new_rank, kept, settles}
 
 module _ (gate : Gate) (letter : gate.letter ≡ 80) (least : gate.least ≡ 128) (bytes : List ℕ) where
@@ -42,7 +42,7 @@ module _ (gate : Gate) (letter : gate.letter ≡ 80) (least : gate.least ≡ 128
 
   module _ (s0 s1 : DiskState) (file : FileName) where
     pub closing : TouchesOnly s0 s1 file (OldOrClosed gate) → TouchesOnly s0 s1 file (OldClosedOrWhole bytes)
-    closing run = says_less s0 s1 file (λ _. Unit {0}) (OldOrClosed gate) (OldClosedOrWhole bytes) (when_told s0.files _ (λ fs is. tt))
+    closing run = touches_weaken s0 s1 file (λ _. Unit {0}) (OldOrClosed gate) (OldClosedOrWhole bytes) (when_told s0.files _ (λ fs is. tt))
         (λ old x fact q. ⊎_elim (λ same. is_old same) (λ closed. is_closed (shuts x closed)) q) run
 
     module _ (closed : HasNow s0 s1 file (closed_bytes gate)) where
@@ -53,7 +53,7 @@ module _ (gate : Gate) (letter : gate.letter ≡ 80) (least : gate.least ≡ 128
       has_no_letter = now_has s0 s1 file (closed_bytes gate) (λ x. ¬ (take 1 x ≡ gate.letter ∷ [])) (λ old. (closed_first old).1) closed
 
       pub filling : (s2 : DiskState) → TouchesOnly s0 s1 file (OldOrClosed gate) → TouchesOnly s1 s2 file (λ _ c. ¬ gates.IsOpen gate c) → TouchesOnly s0 s2 file (OldClosedOrWhole bytes)
-      filling s2 run more = goes_on s0 s1 s2 file (OldClosedOrWhole bytes) (λ x. ¬ gates.IsOpen gate x) (λ old x closed. is_closed (shuts x closed)) (closing run) more
+      filling s2 run more = touches_join s0 s1 s2 file (OldClosedOrWhole bytes) (λ x. ¬ gates.IsOpen gate x) (λ old x closed. is_closed (shuts x closed)) (closing run) more
 
       module _ (s2 : DiskState) (filled : HasNow s1 s2 file (filled_bytes bytes)) where
         both : HasNow s0 s2 file (λ old. filled_bytes bytes (closed_bytes gate old))
@@ -63,8 +63,8 @@ module _ (gate : Gate) (letter : gate.letter ≡ 80) (least : gate.least ≡ 128
         opening s3 run more =
             let R : List ℕ → Type 0 = λ x. (x ≡ 80 ∷ bytes) ⊎ (¬ IsOpen x) in
             let facts = now_has s0 s2 file (λ old. filled_bytes bytes (closed_bytes gate old)) (λ x. opened_bytes gate x ≡ 80 ∷ bytes) (λ old. opened_whole (closed_bytes gate old) (closed_first old).0) both in
-            goes_on s0 s2 s3 file (OldClosedOrWhole bytes) R (λ old x r. ⊎_elim (λ whole. is_whole whole) (λ shut. is_closed shut) r) run
-            (says_less s2 s3 file (λ x. opened_bytes gate x ≡ 80 ∷ bytes) (WholeOrClosed gate) (λ _ x. R x) facts
+            touches_join s0 s2 s3 file (OldClosedOrWhole bytes) R (λ old x r. ⊎_elim (λ whole. is_whole whole) (λ shut. is_closed shut) r) run
+            (touches_weaken s2 s3 file (λ x. opened_bytes gate x ≡ 80 ∷ bytes) (WholeOrClosed gate) (λ _ x. R x) facts
             (λ old x fact q. ⊎_elim (λ whole. inl (whole ∙ fact)) (λ shut. inr (shuts x shut)) q) more)
 
         pub whole : (s3 : DiskState) → HasNow s2 s3 file (opened_bytes gate) → HasNow s0 s3 file (λ _. 80 ∷ bytes)

@@ -1,3 +1,3 @@
-pub mod Told
+pub mod Attach
 pub mod Ranks
 pub mod Commits

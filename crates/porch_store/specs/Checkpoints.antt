@@ -1,7 +1,5 @@
 -- When a checkpoint file is open, its number, and which of two is the newest.
 use Rattle.std.specs.Prelude.{◌≡◌, ℕ, ◌<◌, ◌≤◌, List, [], ◌∷◌, length, take, drop}
-use Rattle.std.specs.declared.option.Option.{Option}
-use Rattle.std.specs.declared.option.Option.TheVariants.{Some, None}
 use Rattle.byteorder.specs.Endian.{big_number}
 use Rattle.porch_edge.specs.declared.disk.FileName.TheVariants.{Program, Output, CkA, CkB, Layouts, Input}
 use Rattle.porch_edge.specs.Files.{Files}
@@ -16,11 +14,6 @@ pub record IsOpen (bytes : List ℕ) : Type 0 where
 -- its number, a big-endian u64 at place 16
 abbrev pub number_of : List ℕ → ℕ
 number_of bytes = big_number 8 (drop 16 bytes)
-
--- the number of an open file, and none of a closed one
-abbrev pub HasNumber : List ℕ → Option ℕ → Type 0
-HasNumber bytes None = ¬ IsOpen bytes
-HasNumber bytes (Some number) = IsOpen bytes × (number ≡ number_of bytes)
 
 -- a file is open, and has the greater number where the other is open too
 pub record Outranks (bytes other : List ℕ) : Type 0 where

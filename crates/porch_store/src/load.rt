@@ -1,4 +1,4 @@
-// Reading a file whole.
+//! Reading a file whole.
 ghost use Rattle.std.specs.Prelude.{◌≡◌, ◌+◌, ◌≤◌, length, take, IfOk, IsErrOf};
 ghost use Rattle.porch_edge.specs.Causes.{HasCause, Rose};
 ghost use Rattle.porch_edge.specs.Disk.{WhereTold, OnlyLooks};
@@ -39,10 +39,12 @@ impl From<AllocError> for LoadFault {
 /// All bytes of a file, read up to the length that the disk says, or to its end where that comes first. `Failed` only
 /// where the disk failed.
 pub fn load_file<D: Disk>(alloc: Global, disk: &mut D, file: FileName) -> Result<Vec<u8>, LoadFault>
-    ensures bytes { IfOk result (λ bytes. WhereTold (D.state disk.old) (λ fs. bytes.items ≡ file_of file fs)) }
+    ensures bytes { IfOk result
+        (λ bytes. WhereTold (D.state disk.old) (λ fs. bytes.items ≡ file_of file fs)) }
     ensures looks { OnlyLooks (D.state disk.old) (D.state disk.new) }
     ensures later { D.faults disk.old ≤ D.faults disk.new }
-    ensures failed { IsErrOf result LoadFault.Failed → Rose (D.faults disk.old) (D.faults disk.new) }
+    ensures failed { IsErrOf result LoadFault.Failed
+        → Rose (D.faults disk.old) (D.faults disk.new) }
 {
     let len = disk.len(file)?;
     let mut bytes = vec![in alloc; 0; len as usize]?;
@@ -67,8 +69,15 @@ fn read_on<D: Disk>(
 ) -> Result<usize, porch_edge::Failed>
     requires { filled ≤ length bytes.old }
     ensures within { IfOk result (λ count. filled + count ≤ length bytes.new) }
-    ensures read { IfOk result (λ count. WhereTold (D.state disk.old) (λ fs. length bytes.old ≡ length (file_of file fs) → take filled bytes.old ≡ take filled (file_of file fs) → bytes.new ≡ file_of file fs)) }
-    ensures all { IfOk result (λ count. WhereTold (D.state disk.old) (λ fs. length bytes.old ≡ length (file_of file fs) → filled + count ≡ length bytes.old)) }
+    ensures read { IfOk result
+        (λ count. WhereTold (D.state disk.old)
+        (λ fs. length bytes.old ≡ length (file_of file fs)
+        → take filled bytes.old ≡ take filled (file_of file fs)
+        → bytes.new ≡ file_of file fs)) }
+    ensures all { IfOk result
+        (λ count. WhereTold (D.state disk.old)
+        (λ fs. length bytes.old ≡ length (file_of file fs)
+        → filled + count ≡ length bytes.old)) }
     ensures looks { OnlyLooks (D.state disk.old) (D.state disk.new) }
     ensures cause { HasCause (D.faults disk.old) (D.faults disk.new) result }
 {

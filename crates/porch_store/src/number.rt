@@ -1,9 +1,9 @@
-// The number of a checkpoint file.
+//! The number of a checkpoint file.
 ghost use Rattle.std.specs.Prelude.{◌≡◌, IfOk};
 ghost use Rattle.porch_edge.specs.Causes.{HasCause};
 ghost use Rattle.porch_edge.specs.Disk.{WhereTold, OnlyLooks};
 ghost use Rattle.porch_edge.specs.Files.{file_of};
-ghost use Rattle.porch_store.specs.Checkpoints.{HasNumber};
+ghost use Rattle.porch_store.specs.inside.Numbers.{HasNumber};
 
 use byteorder::{BigEndian, ByteOrder};
 use porch_edge::{Disk, Failed, FileName};
@@ -25,7 +25,8 @@ pub(crate) fn checkpoint() -> Gate
 
 /// The number of an open checkpoint file, or none where the file is closed.
 pub(crate) fn open_number<D: Disk>(disk: &mut D, file: FileName) -> Result<Option<u64>, Failed>
-    ensures answer { IfOk result (λ number. WhereTold (D.state disk.old) (λ fs. HasNumber (file_of file fs) number)) }
+    ensures answer { IfOk result
+        (λ number. WhereTold (D.state disk.old) (λ fs. HasNumber (file_of file fs) number)) }
     ensures looks { OnlyLooks (D.state disk.old) (D.state disk.new) }
     ensures cause { HasCause (D.faults disk.old) (D.faults disk.new) result }
 {

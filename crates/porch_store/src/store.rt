@@ -1,9 +1,10 @@
-// The two checkpoint files of a disk, of which the newest counts.
+//! The two checkpoint files of a disk, of which the newest counts.
 ghost use Rattle.std.specs.Prelude.{◌≡◌, ◌≢◌, ◌≤◌, ◌↔◌, ◌∷◌, length, IsTrue, IfOk, OnOk, OnErr};
 ghost use Rattle.porch_edge.specs.Causes.{HasCause};
 ghost use Rattle.porch_edge.specs.Files.{Files};
 ghost use Rattle.porch_edge.specs.Disk.{WhereTold, BothTell, OnlyLooks, TouchesOnly, LeavesOnly, HasNow};
-ghost use Rattle.porch_store.specs.Checkpoints.{HasNumber, IsNewest, number_of};
+ghost use Rattle.porch_store.specs.Checkpoints.{IsNewest, number_of};
+ghost use Rattle.porch_store.specs.inside.Numbers.{HasNumber};
 ghost use Rattle.porch_store.specs.Stores.{newest_known, number_known, newest_number, IsSpent, IsReady, older_of, IsBelow, OldClosedOrWhole, KeepsNewest, IsNew};
 
 use crate::number::{checkpoint, open_number};
@@ -70,16 +71,26 @@ impl Store {
         requires greater { IsBelow (number_known self.old) number }
         requires long { 127 ≤ length bytes.now }
         requires numbered { number_of (80 ∷ bytes.now) ≡ number }
-        ensures acknowledged { IfOk result (λ ack. ack ≡ record { file = older_of (newest_known self.old); number = number }) }
-        ensures known { OnOk result (newest_known self.new ≡ Newest.One (older_of (newest_known self.old))) }
+        ensures acknowledged { IfOk result
+            (λ ack. ack ≡ record { file = older_of (newest_known self.old); number = number }) }
+        ensures known { OnOk result
+            (newest_known self.new ≡ Newest.One (older_of (newest_known self.old))) }
         ensures numbered { OnOk result (number_known self.new ≡ Some number) }
         ensures ready { OnOk result (IsReady self.new (D.state disk.new)) }
         ensures usable { OnOk result (¬ IsSpent self.new) }
         ensures spent { OnErr result (IsSpent self.new) }
-        ensures now { OnOk result (HasNow (D.state disk.old) (D.state disk.new) (older_of (newest_known self.old)) (λ _. 80 ∷ bytes.now)) }
-        ensures newest { OnOk result (WhereTold (D.state disk.new) (λ _. (c : Files) → (D.state disk.new).leaves c → IsNew (older_of (newest_known self.old)) bytes.now c)) }
-        ensures one_file { TouchesOnly (D.state disk.old) (D.state disk.new) (older_of (newest_known self.old)) (OldClosedOrWhole bytes.now) }
-        ensures moments { BothTell (D.state disk.old).files (D.state disk.new).files (λ fs _. LeavesOnly (D.state disk.old) (D.state disk.new) (KeepsNewest (newest_known self.old) fs bytes.now)) }
+        ensures now { OnOk result
+            (HasNow (D.state disk.old) (D.state disk.new)
+            (older_of (newest_known self.old)) (λ _. 80 ∷ bytes.now)) }
+        ensures newest { OnOk result
+            (WhereTold (D.state disk.new)
+            (λ _. (c : Files) → (D.state disk.new).leaves c
+            → IsNew (older_of (newest_known self.old)) bytes.now c)) }
+        ensures one_file { TouchesOnly (D.state disk.old) (D.state disk.new)
+            (older_of (newest_known self.old)) (OldClosedOrWhole bytes.now) }
+        ensures moments { BothTell (D.state disk.old).files (D.state disk.new).files
+            (λ fs _. LeavesOnly (D.state disk.old) (D.state disk.new)
+            (KeepsNewest (newest_known self.old) fs bytes.now)) }
         ensures cause { HasCause (D.faults disk.old) (D.faults disk.new) result }
     {
         let file = older(self.newest);
@@ -132,8 +143,10 @@ fn older(newest: Newest) -> FileName
 
 // A store that knows the newest, by the number of each file where it is open.
 fn ranked(first: Option<u64>, second: Option<u64>) -> Store
-    ensures newest { (fs : Files) → HasNumber fs.ck_a first → HasNumber fs.ck_b second → IsNewest (newest_known result) fs }
-    ensures number { (fs : Files) → HasNumber fs.ck_a first → HasNumber fs.ck_b second → number_known result ≡ newest_number (newest_known result) fs }
+    ensures newest { (fs : Files) → HasNumber fs.ck_a first → HasNumber fs.ck_b second
+        → IsNewest (newest_known result) fs }
+    ensures number { (fs : Files) → HasNumber fs.ck_a first → HasNumber fs.ck_b second
+        → number_known result ≡ newest_number (newest_known result) fs }
     ensures usable { ¬ IsSpent result }
 {
     let (newest, number) = match (first, second) {

@@ -9,3 +9,4 @@ pub mod Copying
 pub mod LeafTypes
 pub mod KindTypes
 pub mod Longer
+pub mod Nested

@@ -379,3 +379,13 @@ pub found_iff : (types : List Ty) (root count place u : ℕ) (b : Bool) → AreF
 found_iff types root count place u b formed known is =
     subst (λ x. (IsTrue x → IsSubobject types root count place u) × (IsSubobject types root count place u → IsTrue x)) (sym is)
     (is_found types root count place u (row_at types root count place u) formed known refl)
+
+pub none_sound : (types : List Ty) (root count place u : ℕ) → AreFormed types → root < length types → row_at types root count place u ≡ None → ¬ IsSubobject types root count place u
+none_sound types root count place u formed known is = λ s.
+    let p : row_at types root count place u ≡ Some s.0 = row_exact types root count place u s.0 formed known s.1 in
+    cc
+
+pub none_complete : (types : List Ty) (root count place u : ℕ) → ¬ IsSubobject types root count place u → row_at types root count place u ≡ None
+none_complete types root count place u none =
+    elim (row_at types root count place u) as (λ o. row_at types root count place u ≡ o → row_at types root count place u ≡ None)
+    [ None ↦ λ e. e | Some row ↦ λ e. absurd (none (row, row_found types root count place u row e)) ] refl

@@ -8,7 +8,7 @@ use Rattle.porch_types.specs.declared.shapes.Kind.TheVariants.{Char, UChar, Shor
 use Rattle.porch_values.specs.declared.acts.Op.{Op}
 use Rattle.porch_values.specs.declared.widths.Widths.{Widths}
 use Rattle.porch_values.specs.Integers.{in_range, is_value_of, is_right_of, is_shift}
-use Rattle.porch_values.specs.Words.{InWord, InSigned, InUnsigned}
+use Rattle.porch_values.specs.inside.Words.{InWord, InSigned, InUnsigned}
 
 -- a test of a range
 pub bounded : (low high z : ℤ) → (int_le low z && int_le z high) ≡ true → (low ≤ℤ z) × (z ≤ℤ high)
@@ -17,7 +17,7 @@ bounded low high z h =
     (grind (arith, ints), grind (arith, ints))
 
 -- one of the widths is there
-each_cases : (n w t u : Bool) → (n || w) ≡ true → ((not n || t) && (not w || u)) ≡ true → (t ≡ true) ⊎ (u ≡ true)
+pub each_cases : (n w t u : Bool) → (n || w) ≡ true → ((not n || t) && (not w || u)) ≡ true → (t ≡ true) ⊎ (u ≡ true)
 each_cases true w true u some h = inl refl
 each_cases true w false u some h = absurd (cc)
 each_cases false true t true some h = inr refl

@@ -1,2 +1,4 @@
 pub mod Bounds
 pub mod Valid
+pub mod FewerWidths
+pub mod SameValue

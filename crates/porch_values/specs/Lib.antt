@@ -1,2 +1,5 @@
+-- Ranges of the kinds, and the results of operators and conversions.
 pub mod Integers
-pub mod Words
+-- Sets of widths within others.
+pub mod Widths
+pub mod inside

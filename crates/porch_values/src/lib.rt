@@ -6,12 +6,14 @@
 #![tactic(auto)]
 
 mod acts;
+mod laws;
 mod ranges;
 mod reductions;
 mod results;
 mod widths;
 
 pub use acts::{Act, Op};
+pub use laws::{fewer_widths_agree, one_width_is_never_narrow, values_convert_to_themselves};
 pub use ranges::{greatest, is_operand, is_right, is_value, least};
 pub use results::{apply, complement, convert};
 pub use widths::Widths;

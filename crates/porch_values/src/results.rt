@@ -2,7 +2,7 @@ ghost use Rattle.std.specs.Prelude.{◌≡◌, ◌≢◌, ◌<◌, ◌^◌, ◌&
 ghost use Rattle.std.specs.Int.{int_div_euclid};
 ghost use Rattle.std.specs.Ordering.{int_eq};
 ghost use Rattle.porch_values.specs.Integers.{applied, as_ulong_of, bits, complemented, converted, exact, in_some, is_bad_count, is_operand_kind, is_right_of, is_value_of, least_of, least_width, reduced};
-ghost use Rattle.porch_values.specs.Words.{InWord, InSigned, InUnsigned};
+ghost use Rattle.porch_values.specs.inside.Words.{InWord, InSigned, InUnsigned};
 
 use crate::acts::{Act, Op};
 use crate::ranges::least;

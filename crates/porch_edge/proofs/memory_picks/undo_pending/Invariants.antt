@@ -1,7 +1,8 @@
 use Rattle.std.proofs.Common.{◌≡◌, length, reverse, vec_len}
 use Rattle.porch_edge.specs.declared.disk.FileName.{FileName}
 use Rattle.porch_edge.specs.Files.{file_of}
-use Rattle.porch_edge.specs.Picks.{left_to_undo, synced_bytes}
+use Rattle.porch_edge.specs.Picks.{synced_bytes}
+use Rattle.porch_edge.specs.inside.Undo.{left_to_undo}
 use Rattle.porch_edge.proofs.memory_picks.undo_pending.Given as goal
 
 abbrev pub invariant-loop-call : goal.invariant-loop-call

@@ -1,5 +1,5 @@
 use Rattle.porch_metrics.proofs.Counted.{counted}
-use Rattle.porch_metrics.proofs.RowPlaces.{row_stands, element_begins, subobject_leaf}
+use Rattle.porch_metrics.proofs.RowPlaces.{row_stands, element_begins, subobject_leaf, member_first}
 use Rattle.porch_metrics.proofs.laws.places_add_up.Goals as goal
 
 pub returns-clause-leaves : goal.returns-clause-leaves
@@ -12,3 +12,6 @@ returns-clause-elements c = λ l types root count ty first len k is are known ro
 
 pub returns-clause-subobjects : goal.returns-clause-subobjects
 returns-clause-subobjects c = λ l types root count place ty leaf is are known sub lt. subobject_leaf l types root count place ty leaf is (counted types are c.leaves_add_up.ensures.together c.leaves_add_up.ensures.some) known sub lt
+
+pub returns-clause-members : goal.returns-clause-members
+returns-clause-members c = λ l types ty i m members is are at at_i. member_first l types ty i m members is (counted types are c.leaves_add_up.ensures.together c.leaves_add_up.ensures.some) at at_i

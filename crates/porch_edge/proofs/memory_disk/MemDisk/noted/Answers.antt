@@ -1,6 +1,6 @@
 use Rattle.porch_edge.proofs.MemorySteps.{stays_noted, durable_noted}
 use Rattle.std.proofs.Common.{subst}
-use Rattle.porch_edge.specs.Calls.{Noted}
+use Rattle.porch_edge.specs.inside.Kept.{Noted}
 use Rattle.porch_edge.proofs.memory_disk.MemDisk.noted.Goals as goal
 
 pub returns-in-Ok-clause-stays : goal.returns-in-Ok-clause-stays

@@ -1,6 +1,6 @@
 use Rattle.std.proofs.Common.{reverse, sym, subst, refl}
 use Rattle.std.proofs.lemmas.Result.{on_ok_weaker}
-use Rattle.porch_edge.specs.Calls.{Kept}
+use Rattle.porch_edge.specs.inside.Kept.{Kept}
 use Rattle.porch_edge.proofs.MemorySteps.{kept_or_not}
 use Rattle.porch_edge.proofs.Logged.{both_err, kept_put, follows_put}
 use Rattle.porch_edge.proofs.memory_disk.MemDisk.put.Goals as goal

@@ -1,7 +1,7 @@
 use Rattle.std.proofs.Common.{inl, inr, ◌∙◌, ◌<◌, ◌≤◌, length, reverse, sym, subst, arith, rules}
 use Rattle.std.proofs.lemmas.Result.{on_ok_weaker}
 use Rattle.porch_edge.specs.Files.{file_of}
-use Rattle.porch_edge.specs.Calls.{Kept}
+use Rattle.porch_edge.specs.inside.Kept.{Kept}
 use Rattle.porch_edge.proofs.Steps.{in_any, stays_none}
 use Rattle.porch_edge.proofs.MemorySteps.{kept_or_not, stays_unchanged}
 use Rattle.porch_edge.proofs.Logged.{cut_idle, cut_step, kept_cut}

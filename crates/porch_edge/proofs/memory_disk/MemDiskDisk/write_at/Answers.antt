@@ -2,7 +2,7 @@ use Rattle.std.proofs.Common.{inl, inr, ◌∙◌, ◌≡◌, ◌<◌, ◌≤◌
 use Rattle.std.proofs.lemmas.Result.{on_ok_weaker}
 use Rattle.std.proofs.lemmas.List.{nil_from_length}
 use Rattle.std.proofs.lemmas.Bool.Decides.{nat_tests}
-use Rattle.porch_edge.specs.Calls.{Kept}
+use Rattle.porch_edge.specs.inside.Kept.{Kept}
 use Rattle.porch_edge.proofs.Steps.{in_any, stays_none}
 use Rattle.porch_edge.proofs.MemorySteps.{kept_or_not, stays_unchanged}
 use Rattle.porch_edge.proofs.Logged.{write_idle, write_step, kept_write}

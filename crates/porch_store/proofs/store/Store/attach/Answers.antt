@@ -1,4 +1,4 @@
-use Rattle.porch_store.proofs.Told.{attached}
+use Rattle.porch_store.proofs.Attach.{attached}
 use Rattle.porch_store.proofs.store.Store.attach.Goals as goal
 
 pub returns-clause-ready : goal.returns-clause-ready

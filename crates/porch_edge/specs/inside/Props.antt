@@ -6,7 +6,8 @@ use Rattle.porch_edge.specs.declared.memory_calls.Change.{Change}
 use Rattle.porch_edge.specs.declared.memory_calls.Change.TheVariants.{Nothing, Synced, Write, Cut, Put}
 use Rattle.porch_edge.specs.declared.memory_calls.Call.{Call}
 use Rattle.porch_edge.specs.Files.{Files}
-use Rattle.porch_edge.specs.Calls.{change_on, bytes_before, Did, FileKept, Kept}
+use Rattle.porch_edge.specs.Calls.{change_on, bytes_before}
+use Rattle.porch_edge.specs.inside.Kept.{Did, FileKept, Kept}
 
 did_prop : (x : Change) (before now : List ℕ) → IsProp (Did x before now)
 did_prop Nothing before now = hlevel props

@@ -1,13 +1,15 @@
 -- What a disk in memory tells keeps the laws of a disk.
 use Rattle.std.specs.Prelude.{ℕ, List, [], ◌∷◌, length, refl}
-use Rattle.std.proofs.Common.{inl, inr, arith}
+use Rattle.std.proofs.Common.{inl, inr}
+use Rattle.std.proofs.Math.Nat.{not-suc-le_self}
 use Rattle.porch_edge.specs.declared.disk.FileName.{FileName}
 use Rattle.porch_edge.specs.declared.memory_calls.Change.{Change}
 use Rattle.porch_edge.specs.declared.memory_calls.Change.TheVariants.{Nothing, Synced, Write, Cut, Put}
 use Rattle.porch_edge.specs.declared.memory_calls.Call.{Call}
 use Rattle.porch_edge.specs.Files.{Files, file_of}
 use Rattle.porch_edge.specs.Disk.{Moment, IsBy}
-use Rattle.porch_edge.specs.Calls.{change_on, bytes_before, LeavesBy, FileLeaves, Leaves, LeftSince, Did, FileKept, Kept}
+use Rattle.porch_edge.specs.Calls.{change_on, bytes_before, LeavesBy, FileLeaves, Leaves, LeftSince}
+use Rattle.porch_edge.specs.inside.Kept.{Did, FileKept, Kept}
 
 reads_by : (x : Change) (before now : List ℕ) (past : List ℕ → Type 0) → Did x before now → past (bytes_before x before now) → LeavesBy x now past now
 reads_by Nothing before now past did here = here
@@ -33,4 +35,4 @@ counts_now fs (call ∷ log) t c le left = inl left
 pub only_now : (fs : Files) (log : List Call) (c : Files) → LeftSince fs log (length log) c → Leaves fs log c
 only_now fs [] c left = left
 only_now fs (call ∷ log) c (inl now) = now
-only_now fs (call ∷ log) c (inr past) = absurd (omega (arith, past.0))
+only_now fs (call ∷ log) c (inr past) = absurd (not-suc-le_self (length log) past.0)

@@ -1,0 +1,89 @@
+//! What joins calls on a disk that come one after another. The functions do nothing: each says a law.
+//!
+//! A clause can't speak of every state and every predicate, so the laws are said of a disk's own states and of tests
+//! on bytes. They are instances of the facts that `specs/Runs.antt` proves of all, which proofs in crates above cite.
+
+ghost use Rattle.std.specs.Prelude.{ℕ, List, Bool, IsTrue};
+ghost use Rattle.std.specs.declared.result.Result.{Result};
+ghost use Rattle.porch_edge.specs.declared.disk.FileName.{FileName};
+ghost use Rattle.porch_edge.specs.declared.failed.Failed.{Failed};
+ghost use Rattle.porch_edge.specs.Files.{Shortened, Marred};
+ghost use Rattle.porch_edge.specs.Disk.{LenStep, ReadStep, WriteStep, CutStep, SyncStep, TornWrite, IsSettled, OnlyLooks, HasNow};
+ghost use Rattle.porch_edge.specs.Runs.{KeepsPassing, TouchesPassing};
+
+use crate::Disk;
+
+/// A length, a read and a sync change nothing, whatever they answer: reads give the same, and a crash leaves nothing
+/// that it couldn't leave before.
+pub fn calls_look<D: Disk>()
+    ensures len { (s t : D) (file : FileName) (r : Result ℕ Failed)
+        → LenStep (D.state s) (D.state t) file r → OnlyLooks (D.state s) (D.state t) }
+    ensures read { (s t : D) (file : FileName) (at : ℕ) (before after : List ℕ)
+        (r : Result ℕ Failed)
+        → ReadStep (D.state s) (D.state t) file at before after r
+        → OnlyLooks (D.state s) (D.state t) }
+    ensures sync { (s t : D) (file : FileName) (r : Result (Unit {0}) Failed)
+        → SyncStep (D.state s) (D.state t) file r → OnlyLooks (D.state s) (D.state t) }
+{}
+
+/// Two runs of calls that change nothing are one.
+pub fn looks_join<D: Disk>()
+    ensures { (s t u : D) → OnlyLooks (D.state s) (D.state t) → OnlyLooks (D.state t) (D.state u)
+        → OnlyLooks (D.state s) (D.state u) }
+{}
+
+/// Two changes of one file are one, and nothing is pending after it.
+pub fn changes_join<D: Disk>()
+    ensures joined { (s t u : D) (file : FileName) (g h : List ℕ → List ℕ)
+        → HasNow (D.state s) (D.state t) file g → HasNow (D.state t) (D.state u) file h
+        → HasNow (D.state s) (D.state u) file (λ old. h (g old)) }
+    ensures settled { (s t : D) (file : FileName) (g : List ℕ → List ℕ)
+        → HasNow (D.state s) (D.state t) file g → IsSettled (D.state t) file }
+{}
+
+/// No call is a run on a file in which nothing is pending: a crash leaves its old bytes.
+pub fn runs_begin<D: Disk>()
+    ensures { (s : D) (file : FileName) (test : List ℕ → List ℕ → Bool)
+        → ((old : List ℕ) → IsTrue (test old old)) → IsSettled (D.state s) file
+        → TouchesPassing (D.state s) (D.state s) file test }
+{}
+
+/// A run on a file goes on by one call. At each moment a crash leaves bytes that pass the test, if each call turns
+/// bytes that pass it into bytes that do.
+pub fn runs_go_on<D: Disk>()
+    ensures len { (s t u : D) (file : FileName) (test : List ℕ → List ℕ → Bool)
+        (r : Result ℕ Failed)
+        → TouchesPassing (D.state s) (D.state t) file test
+        → LenStep (D.state t) (D.state u) file r
+        → TouchesPassing (D.state s) (D.state u) file test }
+    ensures read { (s t u : D) (file : FileName) (test : List ℕ → List ℕ → Bool)
+        (at : ℕ) (before after : List ℕ) (r : Result ℕ Failed)
+        → TouchesPassing (D.state s) (D.state t) file test
+        → ReadStep (D.state t) (D.state u) file at before after r
+        → TouchesPassing (D.state s) (D.state u) file test }
+    ensures write { (s t u : D) (file : FileName) (test : List ℕ → List ℕ → Bool)
+        (at : ℕ) (bytes : List ℕ) (r : Result (Unit {0}) Failed)
+        → ((now : List ℕ) → KeepsPassing test (TornWrite now at bytes))
+        → TouchesPassing (D.state s) (D.state t) file test
+        → WriteStep (D.state t) (D.state u) file at bytes r
+        → TouchesPassing (D.state s) (D.state u) file test }
+    ensures cut { (s t u : D) (file : FileName) (test : List ℕ → List ℕ → Bool)
+        (len : ℕ) (r : Result (Unit {0}) Failed)
+        → KeepsPassing test (Shortened len) → KeepsPassing test (Marred len)
+        → TouchesPassing (D.state s) (D.state t) file test
+        → CutStep (D.state t) (D.state u) file len r
+        → TouchesPassing (D.state s) (D.state u) file test }
+    ensures sync { (s t u : D) (file : FileName) (test : List ℕ → List ℕ → Bool)
+        (r : Result (Unit {0}) Failed)
+        → TouchesPassing (D.state s) (D.state t) file test → SyncStep (D.state t) (D.state u) file r
+        → TouchesPassing (D.state s) (D.state u) file test }
+{}
+
+/// Two runs on one file are one, if what the second says of the bytes is enough whatever the old ones were.
+pub fn runs_join<D: Disk>()
+    ensures { (s t u : D) (file : FileName) (test : List ℕ → List ℕ → Bool) (holds : List ℕ → Bool)
+        → ((old x : List ℕ) → IsTrue (holds x) → IsTrue (test old x))
+        → TouchesPassing (D.state s) (D.state t) file test
+        → TouchesPassing (D.state t) (D.state u) file (λ _ x. holds x)
+        → TouchesPassing (D.state s) (D.state u) file test }
+{}

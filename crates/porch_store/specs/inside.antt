@@ -1,0 +1,3 @@
+-- What only private contracts cite.
+-- the number of an open file
+pub mod Numbers
