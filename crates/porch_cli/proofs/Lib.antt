@@ -1,5 +1,5 @@
 pub mod Reasons
 pub mod Taken
 pub mod Turns
-pub mod Counted
+pub mod Budget
 pub mod Runs

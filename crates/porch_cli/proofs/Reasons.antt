@@ -23,10 +23,11 @@ use Rattle.porch_cli.specs.declared.reading.ReadStop.{ReadStop}
 use Rattle.porch_cli.specs.declared.reading.ReadStop.TheVariants as stop
 use Rattle.porch_cli.specs.declared.status.Status.{Status}
 use Rattle.porch_cli.specs.declared.status.Status.TheVariants as status
+use Rattle.porch_cli.specs.Answers.{run_by, RanBytes, exec_setting, meaning_in, HasRead, IsProgram, IsCompiled, Ran, RanProgram, RanProgramPartly, RanInto, Changes, HasReason, HasAnswered, RanSource, IsUsage, IsRefused, IsWriteFault, HasLine, HasLinePrefix, status_of_end, status_of_meaning, IsRun, Completes, CompletesAsMeant, Unordered, Refuses}
 use Rattle.porch_cli.specs.Words.{IsExec}
+use Rattle.porch_cli.specs.inside.Parts.{RunsText, RunsTree, RunsProgram, refused_for, stopped_for}
+use Rattle.porch_cli.specs.inside.Running.{RunsFlat}
 use Rattle.porch_syntax.specs.Token.{decimal_of}
-use Rattle.porch_cli.specs.Running.{run_by, RanBytes, RunsFlat}
-use Rattle.porch_cli.specs.Answers.{exec_setting, meaning_in, HasRead, IsProgram, IsCompiled, Ran, RanProgram, RanProgramPartly, RanInto, Changes, HasReason, RunsText, RunsTree, RunsProgram, refused_for, stopped_for, HasAnswered, RanSource, IsUsage, IsRefused, IsWriteFault, HasLine, HasLinePrefix, status_of_end, status_of_meaning, IsRun, Completes, CompletesAsMeant, Unordered, Refuses}
 use Rattle.porch_cli.proofs.Runs.{unchanged}
 
 -- what the run of a machine answers is what the run of its program does

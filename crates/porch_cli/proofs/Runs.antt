@@ -11,7 +11,8 @@ use Rattle.porch_machine.specs.Column.{Bytes, Setting, Column, Goes, Shows, Ends
 use Rattle.porch_machine.specs.ByteRun.{ByteEnd, Ended, Trap, StackFull, Paused, ByteRun, run_to, then_on, counts_next}
 use Rattle.porch_cli.specs.declared.status.Status.{Status}
 use Rattle.porch_cli.specs.declared.status.Status.TheVariants as status
-use Rattle.porch_cli.specs.Running.{run_by, RanBytes, RanPartly, RunsFlat, StepsOn, StopsHere, BreaksOff, Advances}
+use Rattle.porch_cli.specs.Answers.{run_by, RanBytes}
+use Rattle.porch_cli.specs.inside.Running.{RanPartly, RunsFlat, StepsOn, StopsHere, BreaksOff, Advances}
 
 pub unchanged : (h : Option (List ℕ)) → Grew h h []
 unchanged None = tt

@@ -4,7 +4,8 @@ use Rattle.std.specs.Prelude.{Ok}
 use Rattle.std.specs.declared.option.Option.{Option}
 use Rattle.std.specs.declared.option.Option.TheVariants.{Some, None}
 use Rattle.porch_edge.specs.Streams.{Takes}
-use Rattle.porch_cli.specs.Answers.{HasTaken, HasRead}
+use Rattle.porch_cli.specs.Answers.{HasRead}
+use Rattle.porch_cli.specs.inside.Parts.{HasTaken}
 
 pub none_taken : (a : Option (List ℕ)) → HasTaken a a []
 none_taken None = refl

@@ -5,7 +5,8 @@ use Rattle.std.specs.Prelude.{nat_le, if◌then◌else◌, codes, Some, None}
 use Rattle.std.specs.declared.option.Option.{Option}
 use Rattle.std.specs.List.{list_all}
 use Rattle.porch_syntax.specs.Token.{is_digit}
-use Rattle.porch_cli.specs.Words.{value_behind, IsTurns, IsExec}
+use Rattle.porch_cli.specs.Words.{IsTurns, IsExec}
+use Rattle.porch_cli.specs.inside.Digits.{value_behind}
 
 -- one digit more
 abbrev next : ℕ → ℕ → ℕ

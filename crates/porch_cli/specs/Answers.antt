@@ -1,14 +1,12 @@
 -- What each answer of the top call says.
-use Rattle.std.specs.Prelude.{ℕ, ◌≡◌, ◌≤◌, ◌^◌, ◌⊎◌, List, [], ◌++◌, length, ⊤, Result, Ok, Err, IsErrOf}
-use Rattle.std.specs.Prelude.{map, String, string_bytes}
+use Rattle.std.specs.Prelude.{ℕ, ◌≡◌, ◌≤◌, ◌^◌, ◌⊎◌, List, [], ◌++◌, length, map, String, string_bytes}
 use Rattle.std.specs.Global.{Global}
 use Rattle.std.specs.declared.option.Option.{Option}
 use Rattle.std.specs.declared.option.Option.TheVariants.{Some, None}
 use Rattle.porch_edge.specs.Causes.{Rose}
 use Rattle.porch_edge.specs.Streams.{Grew, GrewByPrefix}
 use Rattle.porch_syntax.specs.declared.refusal.Refusal.{Refusal}
-use Rattle.porch_syntax.specs.declared.refusal.SourceFault.{SourceFault}
-use Rattle.porch_syntax.specs.declared.refusal.SourceFault.TheVariants.{Refused, NoMemory}
+use Rattle.porch_syntax.specs.declared.refusal.SourceFault.TheVariants.{Refused}
 use Rattle.porch_syntax.specs.Tree.{Program}
 use Rattle.porch_syntax.specs.Language.{IsSource, IsRefusal}
 use Rattle.porch_types.specs.Leaves.{kind_types}
@@ -19,18 +17,14 @@ use Rattle.porch_meaning.specs.Mean.{mean}
 use Rattle.porch_flat.specs.declared.flat.Flat.{Flat}
 use Rattle.porch_flat.specs.Valid.{IsValid}
 use Rattle.porch_lower.specs.Lowered.{IsLowered, MeansTheSame}
+use Rattle.porch_layout.specs.Layouts.{le64}
 use Rattle.porch_machine.specs.Column.{Setting, widths_of}
 use Rattle.porch_machine.specs.ByteRun.{ByteEnd, Ended, Trap, StackFull, Paused, ByteRun, RunsTo}
-use Rattle.porch_machine.specs.Steps.{le64}
 use Rattle.porch_machine.specs.Laws.{EndAgrees}
-use Rattle.porch_cli.specs.declared.reading.ReadStop.{ReadStop}
-use Rattle.porch_cli.specs.declared.reading.ReadStop.TheVariants as stop
 use Rattle.porch_cli.specs.declared.status.Status.{Status}
 use Rattle.porch_cli.specs.declared.status.Status.TheVariants as status
 use Rattle.porch_cli.specs.Words.{IsExec}
 use Rattle.porch_cli.specs.Lines.{line_of}
-use Rattle.std.specs.declared.alloc.AllocError.{AllocError}
-use Rattle.porch_cli.specs.Running.{run_by, RanBytes, RunsFlat}
 
 -- what exec runs a program on: the layout le64, a stack of 1,048,576 bytes and a heap of 8,388,608
 abbrev pub exec_setting : Setting
@@ -46,17 +40,6 @@ HasRead None left' text = left' ≡ None
 HasRead (Some held) None text = ⊥
 HasRead (Some held) (Some rest) text = (held ≡ text ++ rest) × (length text ≤ 2 ^ 20 → rest ≡ [])
 
--- So much was taken from the source.
-abbrev pub HasTaken : Option (List ℕ) → Option (List ℕ) → List ℕ → Type 0
-HasTaken None left' text = left' ≡ None
-HasTaken (Some held) None text = ⊥
-HasTaken (Some held) (Some rest) text = held ≡ text ++ rest
-
--- A source wasn't read for want of memory, or as a read failed.
-pub record HasReadCause (before now : ℕ) (r : Result (Unit {0}) ReadStop) : Type 0 where
-  pub later : before ≤ now
-  pub rose : IsErrOf r stop.ReadFault → Rose before now
-
 -- The text is that one program.
 pub record IsProgram (text : List ℕ) (p : Program) : Type 0 where
   pub is : IsSource text p
@@ -67,6 +50,15 @@ pub record IsCompiled (p : Program) (flat : Flat) : Type 0 where
   pub valid : IsValid flat
   pub lowered : IsLowered p flat
   pub same : MeansTheSame p flat
+
+abbrev pub run_by : ByteEnd → ℕ → List ℕ → ByteRun
+run_by ending turns output = record { ending = ending; turns = turns; output = output }
+
+-- The flat program was run to this end, and its output was written.
+pub record RanBytes (flat : Flat) (on : Setting) (budget : ℕ) (out out' : Option (List ℕ)) (ending : ByteEnd) (turns : ℕ) : Type 0 where
+  pub output : List ℕ
+  pub run : RunsTo flat on budget (run_by ending turns output)
+  pub grew : Grew out out' output
 
 -- A program was compiled and run over bytes to this end within a budget, and all of its output was written. Unless the
 -- program's meaning meets an undefined act by then, end, turns and output are the meaning's.
@@ -149,43 +141,6 @@ HasReason words c text (status.Refused r) =
 HasReason words c text status.ReadFault = ((budget : ℕ) × IsExec words budget) × Rose c.read_faults c.read_faults' × Grew c.held c.held' []
 HasReason words c text status.WriteFault = HasRead c.left c.left' text × Rose c.write_faults c.write_faults' × RanInto words text c.held c.held'
 HasReason words c text status.NoMemory = ((budget : ℕ) × IsExec words budget) × Grew c.held c.held' []
-
--- What a run of a text gives. Contracts inside this crate cite it.
-abbrev pub RunsText : List ℕ → ℕ → Option (List ℕ) → Option (List ℕ) → ℕ → ℕ → Status → Type 0
-RunsText text budget out out' faults faults' (status.Done value turns) = RanText text budget out out' (Ended value) turns
-RunsText text budget out out' faults faults' (status.Trap a turns) = RanText text budget out out' (Trap a) turns
-RunsText text budget out out' faults faults' (status.Paused turns) = RanText text budget out out' Paused turns
-RunsText text budget out out' faults faults' (status.StackFull asked left) = (turns : ℕ) × RanText text budget out out' (StackFull asked left) turns
-RunsText text budget out out' faults faults' (status.Refused r) = ((p : Program) → IsSource text p → ⊥) × IsRefusal text (Refused r) × Grew out out' []
-RunsText text budget out out' faults faults' status.WriteFault = Rose faults faults' × RanTextPartly text budget out out'
-RunsText text budget out out' faults faults' status.NoMemory = Grew out out' []
-RunsText text budget out out' faults faults' _ = ⊥
-
--- The same of a tree, and of a flat program. Contracts inside this crate cite them.
-abbrev pub RunsTree : Program → ℕ → Option (List ℕ) → Option (List ℕ) → ℕ → ℕ → Status → Type 0
-RunsTree p budget out out' faults faults' (status.Done value turns) = RanProgram p budget out out' (Ended value) turns
-RunsTree p budget out out' faults faults' (status.Trap a turns) = RanProgram p budget out out' (Trap a) turns
-RunsTree p budget out out' faults faults' (status.Paused turns) = RanProgram p budget out out' Paused turns
-RunsTree p budget out out' faults faults' (status.StackFull asked left) = (turns : ℕ) × RanProgram p budget out out' (StackFull asked left) turns
-RunsTree p budget out out' faults faults' status.WriteFault = Rose faults faults' × RanProgramPartly p budget out out'
-RunsTree p budget out out' faults faults' status.NoMemory = Grew out out' []
-RunsTree p budget out out' faults faults' _ = ⊥
-
-abbrev pub RunsProgram : Flat → ℕ → Option (List ℕ) → Option (List ℕ) → ℕ → ℕ → Status → Type 0
-RunsProgram flat budget out out' faults faults' status.NoMemory = Grew out out' []
-RunsProgram flat budget out out' faults faults' s = RunsFlat flat exec_setting budget out out' faults faults' s
-
-abbrev pub IsCompiledFor : Program → Result Flat AllocError → Type 0
-IsCompiledFor p (Ok flat) = IsCompiled p flat
-IsCompiledFor p (Err e) = ⊤
-
-abbrev pub refused_for : SourceFault → Status
-refused_for (Refused r) = status.Refused r
-refused_for NoMemory = status.NoMemory
-
-abbrev pub stopped_for : ReadStop → Status
-stopped_for stop.ReadFault = status.ReadFault
-stopped_for stop.NoMemory = status.NoMemory
 
 -- The closing line is written, or a beginning of it where the count of err rose, which is then the answer.
 abbrev pub Closes : Option (List ℕ) → Option (List ℕ) → ℕ → ℕ → List ℕ → Status → Status → Type 0

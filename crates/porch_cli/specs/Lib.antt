@@ -1,4 +1,8 @@
+-- the words of a command
 pub mod Words
+-- the closing line of each answer
 pub mod Lines
-pub mod Running
+-- why the top call gives each answer
 pub mod Answers
+-- what only private contracts cite
+pub mod inside

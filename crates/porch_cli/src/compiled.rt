@@ -3,8 +3,9 @@
 ghost use Rattle.std.specs.Prelude.{◌≡◌, ◌≤◌, ◌^◌};
 ghost use Rattle.porch_syntax.specs.Tree.{program_of};
 ghost use Rattle.porch_lower.specs.Lowered.{IsLowerable};
-ghost use Rattle.porch_machine.specs.Steps.{le64};
-ghost use Rattle.porch_cli.specs.Answers.{IsCompiledFor, RunsProgram, RunsTree, exec_setting};
+ghost use Rattle.porch_layout.specs.Layouts.{le64};
+ghost use Rattle.porch_cli.specs.Answers.{exec_setting};
+ghost use Rattle.porch_cli.specs.inside.Parts.{IsCompiledFor, RunsProgram, RunsTree};
 
 use crate::exec::run;
 use crate::status::Status;
@@ -48,7 +49,8 @@ pub fn compiled(alloc: Global, tree: &Tree) -> Result<Valid, AllocError>
 /// Runs a valid program for at most so many turns.
 fn run_program<O: Sink>(alloc: Global, program: &Valid, budget: u64, out: &mut O) -> Status
     requires { budget ≤ 2 ^ 62 }
-    ensures runs { RunsProgram program.now budget (O.held out.old) (O.held out.new) (O.faults out.old) (O.faults out.new) result }
+    ensures runs { RunsProgram program.now budget
+        (O.held out.old) (O.held out.new) (O.faults out.old) (O.faults out.new) result }
     ensures later { O.faults out.old ≤ O.faults out.new }
 {
     let layout = layout_of_exec();
@@ -62,7 +64,8 @@ fn run_program<O: Sink>(alloc: Global, program: &Valid, budget: u64, out: &mut O
 pub fn run_tree<O: Sink>(alloc: Global, tree: &Tree, budget: u64, out: &mut O) -> Status
     requires lowerable { IsLowerable (program_of tree.now) }
     requires few { budget ≤ 2 ^ 62 }
-    ensures runs { RunsTree (program_of tree.now) budget (O.held out.old) (O.held out.new) (O.faults out.old) (O.faults out.new) result }
+    ensures runs { RunsTree (program_of tree.now) budget
+        (O.held out.old) (O.held out.new) (O.faults out.old) (O.faults out.new) result }
     ensures later { O.faults out.old ≤ O.faults out.new }
 {
     runs_agree();

@@ -2,7 +2,7 @@
 
 ghost use Rattle.std.specs.Prelude.{◌≡◌, ◌≤◌, ◌<◌, ◌^◌};
 ghost use Rattle.porch_machine.specs.Steps.{Fits};
-ghost use Rattle.porch_cli.specs.Running.{Advances, RunsFlat};
+ghost use Rattle.porch_cli.specs.inside.Running.{Advances, RunsFlat};
 ghost use Rattle.porch_machine.specs.Column.{prepared};
 
 use crate::status::Status;
@@ -20,7 +20,9 @@ fn advance<O: Sink>(
     requires fits { Fits program.now machine.old }
     requires few { budget ≤ 2 ^ 62 }
     requires within { machine.old.bytes.turns ≤ budget }
-    ensures advances { Advances program.now machine.old.setting budget machine.old.bytes machine.new.bytes (O.held out.old) (O.held out.new) (O.faults out.old) (O.faults out.new) result }
+    ensures advances { Advances program.now machine.old.setting budget
+        machine.old.bytes machine.new.bytes
+        (O.held out.old) (O.held out.new) (O.faults out.old) (O.faults out.new) result }
     ensures fits { Fits program.now machine.new }
     ensures setting { machine.new.setting ≡ machine.old.setting }
     ensures later { O.faults out.old ≤ O.faults out.new }
@@ -49,7 +51,8 @@ pub fn run<O: Sink>(machine: &mut Machine, program: &Valid, budget: u64, out: &m
     requires fits { Fits program.now machine.old }
     requires start { machine.old.bytes ≡ prepared program.now machine.old.setting }
     requires few { budget ≤ 2 ^ 62 }
-    ensures runs { RunsFlat program.now machine.old.setting budget (O.held out.old) (O.held out.new) (O.faults out.old) (O.faults out.new) result }
+    ensures runs { RunsFlat program.now machine.old.setting budget
+        (O.held out.old) (O.held out.new) (O.faults out.old) (O.faults out.new) result }
     ensures later { O.faults out.old ≤ O.faults out.new }
 {
     'steps: loop {

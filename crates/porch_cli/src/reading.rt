@@ -2,7 +2,8 @@
 
 ghost use Rattle.std.specs.Prelude.{◌≡◌, ◌≤◌, ◌^◌, ◌+◌, length, OnOk, []};
 ghost use Rattle.porch_edge.specs.Causes.{Rose};
-ghost use Rattle.porch_cli.specs.Answers.{HasRead, HasReadCause};
+ghost use Rattle.porch_cli.specs.Answers.{HasRead};
+ghost use Rattle.porch_cli.specs.inside.Parts.{HasReadCause};
 
 use porch_edge::Source;
 

@@ -7,7 +7,8 @@ ghost use Rattle.porch_syntax.specs.declared.refusal.Refusal.{Refusal};
 ghost use Rattle.porch_values.specs.declared.acts.Act.{Act};
 ghost use Rattle.porch_machine.specs.ByteRun.{Ended, Trap, StackFull, Paused};
 ghost use Rattle.porch_cli.specs.Lines.{line_of};
-ghost use Rattle.porch_cli.specs.Answers.{changes, texts, HasReason, RunsText, refused_for, stopped_for, Closes, HasAnswered, RanSource, IsUsage, IsRefused, IsWriteFault, Unordered, Refuses, Completes, CompletesAsMeant, HasLine, HasLinePrefix};
+ghost use Rattle.porch_cli.specs.Answers.{changes, texts, HasReason, Closes, HasAnswered, RanSource, IsUsage, IsRefused, IsWriteFault, Unordered, Refuses, Completes, CompletesAsMeant, HasLine, HasLinePrefix};
+ghost use Rattle.porch_cli.specs.inside.Parts.{RunsText, refused_for, stopped_for};
 
 use crate::compiled::run_tree;
 use crate::line::line_of_status;
@@ -42,7 +43,8 @@ fn status_of_stop(stop: ReadStop) -> Status
 /// Runs the program that a text is, for at most so many turns.
 fn run_text<O: Sink>(alloc: Global, text: &[u8], turns: u64, out: &mut O) -> Status
     requires { turns ≤ 2 ^ 62 }
-    ensures runs { RunsText text.now turns (O.held out.old) (O.held out.new) (O.faults out.old) (O.faults out.new) result }
+    ensures runs { RunsText text.now turns
+        (O.held out.old) (O.held out.new) (O.faults out.old) (O.faults out.new) result }
     ensures later { O.faults out.old ≤ O.faults out.new }
 {
     match parse(alloc, text) {
@@ -64,7 +66,8 @@ fn work<S: Source, O: Sink>(
 ) -> Status
     requires { text.old.items ≡ [] }
     ensures reason { HasReason (texts words.now)
-        (changes S.left S.faults source.old source.new O.held O.faults out.old out.new) text.new.items result }
+        (changes S.left S.faults source.old source.new O.held O.faults out.old out.new)
+        text.new.items result }
     ensures short { length text.new.items ≤ 2 ^ 20 + 4096 }
 {
     let Some(turns) = read_words(words) else {
@@ -79,7 +82,8 @@ fn work<S: Source, O: Sink>(
 /// Writes the closing line, and answers the status, or WriteFault where the line failed.
 pub fn close<E: Sink>(text: &[u8], status: Status, err: &mut E) -> Status
     requires { length text.now < 2 ^ 32 }
-    ensures { Closes (E.held err.old) (E.held err.new) (E.faults err.old) (E.faults err.new) (line_of text.now status) status result }
+    ensures { Closes (E.held err.old) (E.held err.new) (E.faults err.old) (E.faults err.new)
+        (line_of text.now status) status result }
 {
     let line = line_of_status(text, status);
     match write_all(err, line.as_str().as_bytes()) {
@@ -105,22 +109,34 @@ pub fn porch<S: Source, O: Sink, E: Sink>(
 
     // The run of a program over bytes. Unless the program's meaning meets an undefined act by then, its end, its turns and
     // its whole output are those of the meaning.
-    ensures done { (value : ℤ) (turns : ℕ) → result ≡ Status.Done value turns → RanSource (texts words.now)
-        (changes S.left S.faults source.old source.new O.held O.faults out.old out.new) (Ended value) turns }
-    ensures trap { (act : Act) (turns : ℕ) → result ≡ Status.Trap act turns → RanSource (texts words.now)
-        (changes S.left S.faults source.old source.new O.held O.faults out.old out.new) (Trap act) turns }
-    ensures stack_full { (asked left : ℕ) → result ≡ Status.StackFull asked left → (turns : ℕ) × RanSource (texts words.now)
-        (changes S.left S.faults source.old source.new O.held O.faults out.old out.new) (StackFull asked left) turns }
-    ensures paused { (turns : ℕ) → result ≡ Status.Paused turns → RanSource (texts words.now)
-        (changes S.left S.faults source.old source.new O.held O.faults out.old out.new) Paused turns }
+    ensures done { (value : ℤ) (turns : ℕ) → result ≡ Status.Done value turns
+        → RanSource (texts words.now)
+        (changes S.left S.faults source.old source.new O.held O.faults out.old out.new)
+        (Ended value) turns }
+    ensures trap { (act : Act) (turns : ℕ) → result ≡ Status.Trap act turns
+        → RanSource (texts words.now)
+        (changes S.left S.faults source.old source.new O.held O.faults out.old out.new)
+        (Trap act) turns }
+    ensures stack_full { (asked left : ℕ) → result ≡ Status.StackFull asked left
+        → (turns : ℕ) × RanSource (texts words.now)
+        (changes S.left S.faults source.old source.new O.held O.faults out.old out.new)
+        (StackFull asked left) turns }
+    ensures paused { (turns : ℕ) → result ≡ Status.Paused turns
+        → RanSource (texts words.now)
+        (changes S.left S.faults source.old source.new O.held O.faults out.old out.new)
+        Paused turns }
 
     // The refusals, and the faults.
     ensures usage { result ≡ Status.Usage → IsUsage (texts words.now)
         (changes S.left S.faults source.old source.new O.held O.faults out.old out.new) }
-    ensures refused { (refusal : Refusal) → result ≡ Status.Refused refusal → IsRefused (texts words.now)
+    ensures refused { (refusal : Refusal) → result ≡ Status.Refused refusal
+        → IsRefused (texts words.now)
         (changes S.left S.faults source.old source.new O.held O.faults out.old out.new) refusal }
-    ensures read_fault { result ≡ Status.ReadFault → Rose (S.faults source.old) (S.faults source.new) × Grew (O.held out.old) (O.held out.new) [] }
-    ensures write_fault { result ≡ Status.WriteFault → Rose (O.faults out.old) (O.faults out.new) ⊎ Rose (E.faults err.old) (E.faults err.new) }
+    ensures read_fault { result ≡ Status.ReadFault
+        → Rose (S.faults source.old) (S.faults source.new)
+        × Grew (O.held out.old) (O.held out.new) [] }
+    ensures write_fault { result ≡ Status.WriteFault
+        → Rose (O.faults out.old) (O.faults out.new) ⊎ Rose (E.faults err.old) (E.faults err.new) }
     ensures no_memory { result ≡ Status.NoMemory → Grew (O.held out.old) (O.held out.new) [] }
     ensures written { result ≡ Status.WriteFault → IsWriteFault (texts words.now)
         (changes S.left S.faults source.old source.new O.held O.faults out.old out.new) }

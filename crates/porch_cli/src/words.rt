@@ -2,7 +2,8 @@
 
 ghost use Rattle.std.specs.Prelude.{◌≡◌, ◌↔◌, ℕ, Some, map, IsTrue, string_bytes};
 ghost use Rattle.porch_syntax.specs.Token.{is_digit};
-ghost use Rattle.porch_cli.specs.Words.{IsExec, IsTurns, value_behind};
+ghost use Rattle.porch_cli.specs.Words.{IsExec, IsTurns};
+ghost use Rattle.porch_cli.specs.inside.Digits.{value_behind};
 
 /// The turns of a run where none are named.
 const DEFAULT_TURNS: u64 = 1_000_000_000;
@@ -63,7 +64,8 @@ fn is_word(word: &String, text: &str) -> bool
 
 /// The budget of turns that the words order, where they are `exec` or `exec --turns N`.
 pub fn read_words(words: &[String]) -> Option<u64>
-    ensures { (turns : ℕ) → (result ≡ Some turns) ↔ IsExec (map (λ word. string_bytes word) words.now) turns }
+    ensures { (turns : ℕ) → (result ≡ Some turns)
+        ↔ IsExec (map (λ word. string_bytes word) words.now) turns }
 {
     match words {
         [command] => {

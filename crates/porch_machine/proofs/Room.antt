@@ -5,8 +5,8 @@ use Rattle.std.specs.List.{All}
 use Rattle.porch_types.specs.Leaves.{kind_types}
 use Rattle.porch_metrics.specs.Extents.{Extent, extent_of, round_up}
 use Rattle.porch_machine.specs.Room.{places_from, free_behind, frame_bytes, place_of_var}
-use Rattle.porch_machine.specs.Steps.{le64}
-use Rattle.porch_machine.specs.Resolved.{bytes_for}
+use Rattle.porch_layout.specs.Layouts.{le64}
+use Rattle.porch_machine.specs.inside.Resolved.{bytes_for}
 
 -- the extents of the types
 abbrev pub extents : ℕ → Extent

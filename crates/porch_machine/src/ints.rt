@@ -4,7 +4,7 @@ ghost use Rattle.std.specs.Prelude.{◌≡◌, ◌≤◌, ◌+◌, ◌*◌, ◌+
 ghost use Rattle.std.specs.Ordering.{int_eq};
 ghost use Rattle.porch_values.specs.Integers.{as_int_of};
 ghost use Rattle.porch_objects.specs.Meaning.{truth, byte_of};
-ghost use Rattle.porch_machine.specs.Resolved.{int_in, with_int, value_of, Lies, LiesSource};
+ghost use Rattle.porch_machine.specs.inside.Resolved.{int_in, with_int, value_of, Lies, LiesSource};
 
 use crate::code::Source;
 use porch_values::Act;

@@ -1,7 +1,7 @@
 use Rattle.std.proofs.Common.{ap, subst, ◌∙◌}
 use Rattle.porch_layout.specs.declared.layout.Layout.{Layout}
 use Rattle.porch_machine.specs.Column.{Setting}
-use Rattle.porch_cli.specs.Running.{RunsFlat}
+use Rattle.porch_cli.specs.inside.Running.{RunsFlat}
 use Rattle.porch_cli.proofs.Reasons.{run_of_machine}
 use Rattle.porch_cli.proofs.compiled.run_program.Goals as goal
 

@@ -1,5 +1,6 @@
 use Rattle.std.proofs.Common.{[]}
-use Rattle.porch_cli.proofs.Counted.{goes_within, shows_within, left_over, one_left}
+use Rattle.porch_machine.specs.ByteRun.{counts_next}
+use Rattle.porch_cli.proofs.Budget.{stays_within, left_over, one_left}
 use Rattle.porch_cli.proofs.Runs.{unchanged, goes_on, shows_on}
 use Rattle.porch_cli.proofs.exec.advance.Goals as goal
 
@@ -14,7 +15,7 @@ returns-in-Went-clause-advances g c =
     record {
       more = [];
       grew = unchanged (g.O.Sink.held c.args.out.now);
-      within = goes_within flat on m c.step.new.self.bytes n goes c.requires.within (one_left _ _ _ some);
+      within = stays_within (counts_next flat on m.frames) m.turns n c.step.new.self.bytes.turns c.in-Went.ensures.turns c.requires.within (one_left _ _ _ some);
       nearer = c.in-Went.ensures.nearer n c.requires.within (one_left _ _ _ some);
       goes = goes_on flat on n m c.step.new.self.bytes (left_over _ _ _ some) goes;
     }
@@ -30,7 +31,7 @@ returns-in-Ok-clause-advances g c =
     record {
       more = c.step.new.self.shown;
       grew = rw (c.shown.ensures) at c.in-Ok.ensures.gained;
-      within = shows_within flat on m c.step.new.self.bytes c.step.new.self.shown n shows c.requires.within (one_left _ _ _ some);
+      within = stays_within (counts_next flat on m.frames) m.turns n c.step.new.self.bytes.turns c.in-Out.ensures.turns c.requires.within (one_left _ _ _ some);
       nearer = c.in-Out.ensures.nearer n c.requires.within (one_left _ _ _ some);
       goes = shows_on flat on n m c.step.new.self.bytes c.step.new.self.shown (left_over _ _ _ some) shows;
     }

@@ -1,6 +1,6 @@
 use Rattle.std.proofs.Common.{◌≡◌, refl, ap, subst, ◌∙◌, arith, Some}
 use Rattle.porch_machine.specs.Column.{Bytes, Setting}
-use Rattle.porch_cli.specs.Running.{Advances, StepsOn}
+use Rattle.porch_cli.specs.inside.Running.{Advances, StepsOn}
 use Rattle.porch_cli.proofs.Runs.{Came, came_nowhere, came_on, runs_over}
 use Rattle.porch_cli.proofs.exec.run.Goals as goal
 

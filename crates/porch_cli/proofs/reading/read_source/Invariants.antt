@@ -1,5 +1,5 @@
 use Rattle.std.proofs.Common.{◌≤◌, ◌+◌, ◌-◌, ◌^◌, length, vec_len}
-use Rattle.porch_cli.specs.Answers.{HasTaken}
+use Rattle.porch_cli.specs.inside.Parts.{HasTaken}
 use Rattle.porch_cli.proofs.reading.read_source.Given as goal
 
 abbrev pub invariant-loop-piece : goal.invariant-loop-piece

@@ -1,5 +1,5 @@
 use Rattle.std.proofs.Common.{◌≡◌, drop}
-use Rattle.porch_cli.specs.Words.{value_behind}
+use Rattle.porch_cli.specs.inside.Digits.{value_behind}
 use Rattle.porch_cli.proofs.words.value_of.Given as goal
 
 -- the digits that are left, behind the value so far, give what all of them do

@@ -1,5 +1,4 @@
--- How the run of a flat program goes on, step by step. Contracts inside this crate cite it; what a caller sees of a run is
--- RanBytes alone.
+-- How the run of a flat program goes on, step by step.
 use Rattle.std.specs.Prelude.{ℕ, suc, ◌≡◌, ◌≤◌, ◌<◌, List, [], ◌++◌, Option, Some, None}
 use Rattle.porch_edge.specs.Causes.{Rose}
 use Rattle.porch_edge.specs.Streams.{Grew, GrewByPrefix}
@@ -9,15 +8,7 @@ use Rattle.porch_machine.specs.ByteRun.{ByteEnd, Ended, Trap, StackFull, Paused,
 use Rattle.porch_machine.specs.Steps.{left_of}
 use Rattle.porch_cli.specs.declared.status.Status.{Status}
 use Rattle.porch_cli.specs.declared.status.Status.TheVariants as status
-
-abbrev pub run_by : ByteEnd → ℕ → List ℕ → ByteRun
-run_by ending turns output = record { ending = ending; turns = turns; output = output }
-
--- The flat program was run to this end, and its output was written.
-pub record RanBytes (flat : Flat) (on : Setting) (budget : ℕ) (out out' : Option (List ℕ)) (ending : ByteEnd) (turns : ℕ) : Type 0 where
-  pub output : List ℕ
-  pub run : RunsTo flat on budget (run_by ending turns output)
-  pub grew : Grew out out' output
+use Rattle.porch_cli.specs.Answers.{run_by, RanBytes}
 
 -- A beginning of the output of its run was written, and a write failed.
 pub record RanPartly (flat : Flat) (on : Setting) (budget : ℕ) (out out' : Option (List ℕ)) (faults faults' : ℕ) : Type 0 where
