@@ -25,13 +25,11 @@ pub struct Abstract {
 impl Model for Abstract {
     ghost use Rattle.porch_objects.specs.Meaning.{without_input};
     ghost use Rattle.porch_abstract.specs.Held.{Held};
-    ghost use Rattle.porch_abstract.specs.inside.Kept.{state_of, IsCounted};
+    ghost use Rattle.porch_abstract.specs.inside.Kept.{state_of};
 
     ghost Value = { Held };
 
     ghost view = { λ a. record { under = without_input a.widths; state = state_of a.run; labels = a.labels } };
-
-    ghost invariant = { λ a. IsCounted a.run };
 }
 
 impl Abstract {
@@ -55,8 +53,10 @@ impl Abstract {
     pub fn step(&mut self, program: &Valid) -> Result<AStep, AllocError>
         requires fits { Fits program.now self.old }
         requires continues { Continues self.old.state }
-        requires turns { IsTrue (counts_next program.now self.old.under self.old.state.phase) → self.old.state.turns < 2 ^ 62 }
-        ensures steps { Answers (next program.now self.old.under self.old.state) self.old.state self.new.state result }
+        requires turns { IsTrue (counts_next program.now self.old.under self.old.state.phase)
+            → self.old.state.turns < 2 ^ 62 }
+        ensures steps { Answers (next program.now self.old.under self.old.state)
+            self.old.state self.new.state result }
         ensures fits { Fits program.now self.new }
         ensures under_same { self.new.under ≡ self.old.under }
         ensures goes_on { result ≡ Ok AStep.Went → Continues self.new.state }

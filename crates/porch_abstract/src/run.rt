@@ -52,10 +52,8 @@ fn unset(alloc: Global, count: usize) -> Result<Vec<Option<i32>>, AllocError>
 }
 
 impl Run {
-    ghost use Rattle.porch_abstract.specs.inside.Kept.{state_of, state_in, IsCounted, led_to};
-    ghost use Rattle.porch_abstract.specs.Held.{Answers};
+    ghost use Rattle.porch_abstract.specs.inside.Kept.{state_of, state_in, Led, Called};
     ghost use Rattle.porch_abstract.specs.inside.Effects.{effect_at};
-    ghost use Rattle.porch_abstract.specs.Machine.{Goes};
     ghost use Rattle.porch_flat.specs.Labelled.{place_in};
     ghost use Rattle.porch_flat.specs.Places.{place_of_label};
     ghost use Rattle.porch_flat.specs.Valid.{IsMain};
@@ -63,7 +61,6 @@ impl Run {
     /// Before turn 1.
     pub(crate) fn new(alloc: Global) -> Run
         ensures begins { state_of result ≡ state_in Phase.Begun [] 0 [] 0 }
-        ensures counted { IsCounted result }
     {
         Run {
             phase: Phase::Begun,
@@ -77,8 +74,7 @@ impl Run {
     /// Calls `main`, which has so many variables.
     pub(crate) fn enter(&mut self, alloc: Global, count: usize) -> Result<AStep, AllocError>
         requires { self.old.turns < 2 ^ 62 }
-        ensures went { Answers (Goes (state_in Phase.Running (replicate count None) 0 self.old.output.items (self.old.turns + 1))) (state_of self.old) (state_of self.new) result }
-        ensures counted { IsCounted self.old → IsCounted self.new }
+        ensures went { Called self.old self.new count result }
     {
         self.vars = unset(alloc, count)?;
         self.phase = Phase::Running;
@@ -98,10 +94,11 @@ impl Run {
         requires main { IsMain main.now }
         requires labels { (n : ℕ) → place_in labels.now n ≡ place_of_label main.now.commands n }
         requires running { self.old.phase ≡ Phase.Running }
-        requires begun { 0 < self.old.turns }
-        requires turns { IsTrue (counts (slice_get main.now.commands self.old.next)) → self.old.turns < 2 ^ 62 }
-        ensures led { Answers (led_to self.old (effect_at self.old.vars.items labels.now (length main.now.commands) widths (slice_get main.now.commands self.old.next))) (state_of self.old) (state_of self.new) result }
-        ensures counted { IsCounted self.new }
+        requires turns { IsTrue (counts (slice_get main.now.commands self.old.next))
+            → self.old.turns < 2 ^ 62 }
+        ensures led { Led self.old self.new
+            (effect_at self.old.vars.items labels.now (length main.now.commands) widths
+            (slice_get main.now.commands self.old.next)) result }
     {
         let commands = main.commands.as_slice();
         match command_at(commands, self.next) {
@@ -116,11 +113,9 @@ impl Run {
     /// What an effect of the command at `next` leads to.
     pub(crate) fn take(&mut self, effect: Effect) -> Result<AStep, AllocError>
         requires running { self.old.phase ≡ Phase.Running }
-        requires begun { 0 < self.old.turns }
         requires place { self.old.next + 1 < 2 ^ 64 }
         requires turns { effect ≡ Effect.Count → self.old.turns < 2 ^ 62 }
-        ensures led { Answers (led_to self.old effect) (state_of self.old) (state_of self.new) result }
-        ensures counted { IsCounted self.new }
+        ensures led { Led self.old self.new effect result }
     {
         match effect {
             Effect::On => Ok(self.on()),
@@ -135,10 +130,8 @@ impl Run {
 
     fn on(&mut self) -> AStep
         requires running { self.old.phase ≡ Phase.Running }
-        requires begun { 0 < self.old.turns }
         requires place { self.old.next + 1 < 2 ^ 64 }
-        ensures led { Answers (led_to self.old Effect.On) (state_of self.old) (state_of self.new) (Ok result) }
-        ensures counted { IsCounted self.new }
+        ensures led { Led self.old self.new Effect.On (Ok result) }
     {
         self.next += 1;
         AStep::Went
@@ -146,10 +139,8 @@ impl Run {
 
     fn set(&mut self, variable: u32, value: i32) -> AStep
         requires running { self.old.phase ≡ Phase.Running }
-        requires begun { 0 < self.old.turns }
         requires place { self.old.next + 1 < 2 ^ 64 }
-        ensures led { Answers (led_to self.old (Effect.Set variable value)) (state_of self.old) (state_of self.new) (Ok result) }
-        ensures counted { IsCounted self.new }
+        ensures led { Led self.old self.new (Effect.Set variable value) (Ok result) }
     {
         write(&mut self.vars, variable, value);
         self.next += 1;
@@ -158,10 +149,8 @@ impl Run {
 
     fn show(&mut self, variable: u32, byte: u8) -> Result<AStep, AllocError>
         requires running { self.old.phase ≡ Phase.Running }
-        requires begun { 0 < self.old.turns }
         requires place { self.old.next + 1 < 2 ^ 64 }
-        ensures led { Answers (led_to self.old (Effect.Show variable byte)) (state_of self.old) (state_of self.new) result }
-        ensures counted { IsCounted self.new }
+        ensures led { Led self.old self.new (Effect.Show variable byte) result }
     {
         self.output.push(byte)?;
         write(&mut self.vars, variable, 1);
@@ -171,9 +160,7 @@ impl Run {
 
     fn go(&mut self, place: usize) -> AStep
         requires running { self.old.phase ≡ Phase.Running }
-        requires begun { 0 < self.old.turns }
-        ensures led { Answers (led_to self.old (Effect.Go place)) (state_of self.old) (state_of self.new) (Ok result) }
-        ensures counted { IsCounted self.new }
+        ensures led { Led self.old self.new (Effect.Go place) (Ok result) }
     {
         self.next = place;
         AStep::Went
@@ -183,8 +170,7 @@ impl Run {
         requires running { self.old.phase ≡ Phase.Running }
         requires place { self.old.next + 1 < 2 ^ 64 }
         requires turns { self.old.turns < 2 ^ 62 }
-        ensures led { Answers (led_to self.old Effect.Count) (state_of self.old) (state_of self.new) (Ok result) }
-        ensures counted { IsCounted self.new }
+        ensures led { Led self.old self.new Effect.Count (Ok result) }
     {
         self.next += 1;
         self.turns += 1;
@@ -194,9 +180,7 @@ impl Run {
     /// `main` returns this value.
     pub(crate) fn end(&mut self, value: i32) -> AStep
         requires running { self.old.phase ≡ Phase.Running }
-        requires begun { 0 < self.old.turns }
-        ensures led { Answers (led_to self.old (Effect.End value)) (state_of self.old) (state_of self.new) (Ok result) }
-        ensures counted { IsCounted self.new }
+        ensures led { Led self.old self.new (Effect.End value) (Ok result) }
     {
         self.phase = Phase::Over;
         AStep::Ended { value }

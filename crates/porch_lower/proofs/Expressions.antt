@@ -9,7 +9,7 @@ use Rattle.porch_flat.specs.declared.flat.Operand.TheVariants.{Var}
 use Rattle.porch_flat.specs.declared.flat.Command.{Command}
 use Rattle.porch_flat.specs.declared.flat.Command.TheVariants as command
 use Rattle.porch_lower.specs.Code.{atom_of, operand_in, left_operand, left_commands, commands_or, by_sign, factor_place, term_place, into_code, factors_code, terms_code, temps_of, factors_temps, terms_temps}
-use Rattle.porch_lower.specs.Rows.{factors_from, terms_from}
+use Rattle.porch_lower.specs.inside.Rows.{factors_from, terms_from}
 use Rattle.porch_lower.proofs.Joins.{two_parts, put_between}
 use Rattle.porch_lower.proofs.Views.{node_of-Product, node_of-Sum, node_of-Less}
 

@@ -7,7 +7,8 @@ use Rattle.porch_syntax.specs.Language.{expr_tokens, factor_tokens, term_tokens,
 use Rattle.porch_flat.specs.declared.flat.Operand.{Operand}
 use Rattle.porch_flat.specs.declared.flat.Command.{Command}
 use Rattle.porch_flat.specs.Valid.{int_type}
-use Rattle.porch_lower.specs.Code.{is_atom, atom_of, commands_or, left_commands, into_code, factors_code, terms_code, operand_code, action_code, actions_code, declarations_code, main_code, temps_of, factors_temps, terms_temps, action_temps, actions_temps, declarations_temps, main_temps, main_function, flat_of}
+use Rattle.porch_lower.specs.Code.{is_atom, atom_of, commands_or, left_commands, into_code, factors_code, terms_code, operand_code, action_code, actions_code, declarations_code, main_code, temps_of, factors_temps, terms_temps, action_temps, actions_temps, declarations_temps, main_temps}
+use Rattle.porch_lower.specs.inside.Programs.{main_function, flat_of}
 use Rattle.porch_lower.specs.Lowered.{IsLowered}
 
 -- at most two temporaries a token

@@ -16,7 +16,8 @@ use Rattle.porch_flat.specs.declared.valid.ValidFault.{ValidFault}
 use Rattle.porch_flat.specs.declared.valid.ValidFault.TheVariants.{NotValid, NoMemory}
 use Rattle.porch_flat.specs.Places.{place_of_label}
 use Rattle.porch_flat.specs.Valid.{int_type, IsOperand, HasParts, IsValid, IsRefused}
-use Rattle.porch_lower.specs.Code.{atom_of, is_atom, operand_in, commands_or, left_operand, left_commands, by_sign, factor_place, term_place, into_code, factors_code, terms_code, operand_code, action_code, actions_code, declarations_code, main_code, temps_of, factors_temps, terms_temps, action_temps, actions_temps, declarations_temps, main_temps, main_function, flat_of}
+use Rattle.porch_lower.specs.Code.{atom_of, is_atom, operand_in, commands_or, left_operand, left_commands, by_sign, factor_place, term_place, into_code, factors_code, terms_code, operand_code, action_code, actions_code, declarations_code, main_code, temps_of, factors_temps, terms_temps, action_temps, actions_temps, declarations_temps, main_temps}
+use Rattle.porch_lower.specs.inside.Programs.{main_function, flat_of}
 use Rattle.porch_lower.specs.Lowered.{IsFit, FactorsFit, TermsFit, ActionFits, ActionsFit, DeclarationsFit, IsLowerable}
 use Rattle.porch_lower.proofs.Marks.{Each, each_joined, each_at, IsGood, IsBlock, straight_block, block_joined}
 use Rattle.porch_lower.proofs.Turns.{loop_block}

@@ -1,7 +1,7 @@
 -- The flat program of a tree means what the tree means.
 use Rattle.porch_syntax.specs.Tree.{Program}
 use Rattle.porch_abstract.specs.Run.{TellsNothing}
-use Rattle.porch_lower.specs.Code.{flat_of}
+use Rattle.porch_lower.specs.inside.Programs.{flat_of}
 use Rattle.porch_lower.specs.Lowered.{IsLowerable, MeansTheSame}
 use Rattle.porch_lower.proofs.Fine.{labels_stand}
 use Rattle.porch_lower.proofs.SameRun.{same}

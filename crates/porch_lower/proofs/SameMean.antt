@@ -1,5 +1,5 @@
 -- The meaning of expressions and assignments over cells.
-use Rattle.std.proofs.Common.{◌≡◌, ◌≢◌, ◌⊎◌, inl, inr, ◌*ℤ◌, ℕ, zero, suc, ℤ, Bool, List, [], ◌∷◌, map, length, true, false, ◌∙◌, ap, refl}
+use Rattle.std.proofs.Common.{◌≡◌, ◌≢◌, ◌⊎◌, inl, inr, ◌*ℤ◌, ℕ, zero, suc, ℤ, Bool, List, [], ◌∷◌, true, false, ◌∙◌, ap, refl}
 use Rattle.std.proofs.Math.ListN.{set as list_set}
 use Rattle.std.specs.Prelude.{if◌then◌else◌, slice_get, Some, None, Result, Ok, Err}
 use Rattle.std.specs.declared.option.Option.{Option}

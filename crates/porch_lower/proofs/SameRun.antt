@@ -1,25 +1,26 @@
 -- The flat program of a tree means what the tree means.
 use Rattle.std.proofs.Common.{◌≡◌, ◌≤◌, ◌<◌, ◌+◌, ◌++◌, ℕ, zero, suc, ℤ, pos, List, [], ◌∷◌, map, length, replicate, Bool, true, false, refl, sym, ap, subst, ◌∙◌, arith, add-zero, length-append, append_assoc, nat_eq}
 use Rattle.std.proofs.Math.ListN.{set as list_set}
-use Rattle.std.proofs.lemmas.List.{length-set, length-map}
+use Rattle.std.proofs.lemmas.List.{length-set}
 use Rattle.std.proofs.lemmas.Bool.Decides.{nat_tests}
-use Rattle.std.specs.Prelude.{slice_get, slice_index_or, if◌then◌else◌, Some, None, Result, Ok, Err}
+use Rattle.std.specs.Prelude.{slice_get, slice_index_or, Some, None, Result, Ok, Err}
 use Rattle.std.specs.declared.option.Option.{Option}
 use Rattle.porch_types.specs.Leaves.{kind_types}
 use Rattle.porch_syntax.specs.Tree.{Node, Program}
 use Rattle.porch_values.specs.declared.acts.Act.{Act}
 use Rattle.porch_objects.specs.Store.{Value, one_of, Object, Store, fresh}
-use Rattle.porch_objects.specs.Meaning.{Environment, Mark, Progress, with_store, Meaning, Ended}
-use Rattle.porch_meaning.specs.Mean.{Outcome, Went, Gave, Undefined, Stopped, and_then, done, set, declare, acts, roots_of, back as left_main, meaning_of, mean}
+use Rattle.porch_objects.specs.Meaning.{Environment, Progress, with_store, Meaning, Ended}
+use Rattle.porch_meaning.specs.Mean.{Outcome, Went, Gave, Undefined, Stopped, and_then, done, set, declare, acts, back as left_main, meaning_of, mean}
 use Rattle.porch_flat.specs.declared.flat.Operand.TheVariants.{Constant}
 use Rattle.porch_flat.specs.declared.flat.Command.{Command}
 use Rattle.porch_flat.specs.declared.flat.Command.TheVariants as command
 use Rattle.porch_flat.specs.declared.flat.Function.{Function}
 use Rattle.porch_flat.specs.Places.{place_of_label}
 use Rattle.porch_flat.specs.Valid.{int_type}
-use Rattle.porch_abstract.specs.Machine.{State, Next, Goes, Ends, Meets, begin, variables_with, next}
+use Rattle.porch_abstract.specs.Machine.{State, Goes, Ends, begin, variables_with, next}
 use Rattle.porch_abstract.specs.Run.{marks_of, is_paused, Means, TellsNothing}
-use Rattle.porch_lower.specs.Code.{into_code, declarations_code, actions_code, main_code, declarations_temps, main_temps, main_function, flat_of}
+use Rattle.porch_lower.specs.Code.{into_code, declarations_code, actions_code, main_code, declarations_temps, main_temps}
+use Rattle.porch_lower.specs.inside.Programs.{main_function, flat_of}
 use Rattle.porch_lower.specs.Lowered.{IsLowerable, DeclarationsFit, MeansTheSame}
 use Rattle.porch_lower.proofs.SameCells.{Cell, object_in, value_of, store_with, stored-cells, forgotten-cells, slice_get-set_other}
 use Rattle.porch_lower.proofs.SameMean.{source, evaluates, set-same}

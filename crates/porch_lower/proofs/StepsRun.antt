@@ -1,6 +1,6 @@
 -- Runs of the flat machine, step by step: what a run comes to from there, it comes to from here.
-use Rattle.std.proofs.Common.{◌≡◌, ◌&&◌, ℕ, suc, List, Bool, true, false, refl, ◌∙◌, Option, Some}
-use Rattle.std.specs.Prelude.{if◌then◌else◌, nat_le, ℤ}
+use Rattle.std.proofs.Common.{◌≡◌, ℕ, suc, List, Bool, true, false, refl, ◌∙◌, Option, Some}
+use Rattle.std.specs.Prelude.{if◌then◌else◌, ℤ}
 use Rattle.porch_values.specs.declared.acts.Act.{Act}
 use Rattle.porch_objects.specs.Meaning.{Environment, Ending, Ended, Met, Paused}
 use Rattle.porch_flat.specs.declared.flat.Flat.{Flat}

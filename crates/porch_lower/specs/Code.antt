@@ -2,16 +2,12 @@
 --
 -- A value that is neither a variable nor a constant goes through temporaries: the left operand is held in number t and the
 -- right one in t + 1, and what they are made of in those from t + 2 on.
-use Rattle.std.specs.Prelude.{ℕ, ◌+◌, ◌*◌, max, pos, List, [], ◌∷◌, ◌++◌, length, replicate, codes, Bool, true, false, is_some, Option, Some, None}
+use Rattle.std.specs.Prelude.{ℕ, ◌+◌, ◌*◌, max, pos, List, [], ◌∷◌, ◌++◌, length, Bool, true, false, is_some, Option, Some, None}
 use Rattle.porch_syntax.specs.declared.tree.Sign.{Sign}
 use Rattle.porch_syntax.specs.declared.tree.Sign.TheVariants.{Plus, Minus}
 use Rattle.porch_syntax.specs.Tree.{Node, variable, whole, character, nested, product, sum, less, Nodes, no_nodes, node, Terms, no_terms, term, Action, assign, repeat, putchar, give, Actions, no_actions, action, Program}
 use Rattle.porch_flat.specs.declared.flat.Operand.{Operand}
 use Rattle.porch_flat.specs.declared.flat.Operand.TheVariants.{Var, Constant}
-use Rattle.porch_types.specs.Leaves.{kind_types}
-use Rattle.porch_flat.specs.declared.flat.Function.{Function}
-use Rattle.porch_flat.specs.declared.flat.Flat.{Flat}
-use Rattle.porch_flat.specs.Valid.{int_type}
 use Rattle.porch_flat.specs.declared.flat.Command.{Command}
 use Rattle.porch_flat.specs.declared.flat.Command.TheVariants as command
 
@@ -173,17 +169,3 @@ declarations_temps ((Some e) ∷ more) = max (temps_of e) (declarations_temps mo
 
 abbrev pub main_temps : Program → ℕ
 main_temps p = max (declarations_temps p.declarations) (actions_temps p.actions)
-
--- the flat program of a tree
-abbrev pub main_function : Program → Function
-main_function p =
-    record {
-      name = codes "main";
-      result = Some int_type;
-      params = 0;
-      vars = replicate (length p.declarations + main_temps p) int_type;
-      commands = main_code p;
-    }
-
-abbrev pub flat_of : Program → Flat
-flat_of p = record { types = kind_types; globals = []; functions = main_function p ∷ [] }

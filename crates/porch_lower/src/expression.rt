@@ -3,7 +3,7 @@
 ghost use Rattle.std.specs.Prelude.{◌≡◌, ◌<◌, ◌+◌, ◌^◌, ◌++◌, length, drop, map, OnOk, IfOk, is_some};
 ghost use Rattle.porch_syntax.specs.Tree.{node_of, nodes_of, terms_of};
 ghost use Rattle.porch_lower.specs.Code.{atom_of, operand_in, left_operand, left_commands, commands_or, by_sign, factor_place as place_of_factor, term_place as place_of_term, into_code, temps_of, factors_temps, terms_temps};
-ghost use Rattle.porch_lower.specs.Rows.{factors_from, terms_from};
+ghost use Rattle.porch_lower.specs.inside.Rows.{factors_from, terms_from};
 
 use porch_flat::{Command, Operand};
 use porch_syntax::{Expr, Sign};
@@ -38,7 +38,8 @@ fn sum_command(sign: Sign, variable: u32, left: Operand, right: Operand) -> Comm
 /// Where the product by a factor of a row goes: the last to the place of the whole, the others to the left temporary.
 fn factor_place(factors: &[Expr], index: usize, to: u32, from: u32) -> u32
     requires { index < length factors.now }
-    ensures { result ≡ place_of_factor (nodes_of (map node_of (drop (index + 1) factors.now))) to from }
+    ensures { result ≡ place_of_factor
+        (nodes_of (map node_of (drop (index + 1) factors.now))) to from }
 {
     if index + 1 == factors.len() { to } else { from }
 }
@@ -46,7 +47,8 @@ fn factor_place(factors: &[Expr], index: usize, to: u32, from: u32) -> u32
 /// Where the sum with a term of a row goes, likewise.
 fn term_place(terms: &[(Sign, Expr)], index: usize, to: u32, from: u32) -> u32
     requires { index < length terms.now }
-    ensures { result ≡ place_of_term (terms_of (map (λ t. (t.0, node_of t.1)) (drop (index + 1) terms.now))) to from }
+    ensures { result ≡ place_of_term
+        (terms_of (map (λ t. (t.0, node_of t.1)) (drop (index + 1) terms.now))) to from }
 {
     if index + 1 == terms.len() { to } else { from }
 }
@@ -61,7 +63,9 @@ pub(crate) fn held(
     commands: &mut Items<Command>,
 ) -> Result<Operand, AllocError>
     requires few { from + temps_of (node_of expr.now) < 2 ^ 31 }
-    ensures code { OnOk result (commands.new ≡ commands.old ++ commands_or (atom_of (node_of expr.now)) (into_code (node_of expr.now) to from)) }
+    ensures code { OnOk result (commands.new
+        ≡ commands.old ++ commands_or (atom_of (node_of expr.now))
+        (into_code (node_of expr.now) to from)) }
     ensures operand { IfOk result (λ operand. operand ≡ operand_in (node_of expr.now) to) }
 {
     match atom(expr) {
@@ -82,8 +86,11 @@ fn left(
     commands: &mut Items<Command>,
 ) -> Result<Operand, AllocError>
     requires few { from + 2 + temps_of (node_of expr.now) < 2 ^ 31 }
-    ensures code { OnOk result (commands.new ≡ commands.old ++ left_commands (is_some right) (atom_of (node_of expr.now)) (into_code (node_of expr.now) from (from + 2))) }
-    ensures operand { IfOk result (λ operand. operand ≡ left_operand (is_some right) (atom_of (node_of expr.now)) from) }
+    ensures code { OnOk result (commands.new
+        ≡ commands.old ++ left_commands (is_some right) (atom_of (node_of expr.now))
+        (into_code (node_of expr.now) from (from + 2))) }
+    ensures operand { IfOk result
+        (λ operand. operand ≡ left_operand (is_some right) (atom_of (node_of expr.now)) from) }
 {
     match right {
         Some(_) => held(expr, from, from + 2, commands),
@@ -104,7 +111,8 @@ fn factors(
     commands: &mut Items<Command>,
 ) -> Result<(), AllocError>
     requires few { from + 2 + factors_temps (nodes_of (map node_of factors.now)) < 2 ^ 31 }
-    ensures { OnOk result (commands.new ≡ commands.old ++ factors_from first (nodes_of (map node_of factors.now)) to from) }
+    ensures { OnOk result (commands.new
+        ≡ commands.old ++ factors_from first (nodes_of (map node_of factors.now)) to from) }
 {
     let mut left = first;
     for (index, factor) in factors.iter().enumerate() {
@@ -125,8 +133,11 @@ fn terms(
     from: u32,
     commands: &mut Items<Command>,
 ) -> Result<(), AllocError>
-    requires few { from + 2 + terms_temps (terms_of (map (λ t. (t.0, node_of t.1)) terms.now)) < 2 ^ 31 }
-    ensures { OnOk result (commands.new ≡ commands.old ++ terms_from first (terms_of (map (λ t. (t.0, node_of t.1)) terms.now)) to from) }
+    requires few { from + 2 + terms_temps (terms_of (map (λ t. (t.0, node_of t.1)) terms.now))
+        < 2 ^ 31 }
+    ensures { OnOk result (commands.new
+        ≡ commands.old ++ terms_from first
+        (terms_of (map (λ t. (t.0, node_of t.1)) terms.now)) to from) }
 {
     let mut left = first;
     for (index, (sign, term)) in terms.iter().enumerate() {

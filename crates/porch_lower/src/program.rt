@@ -4,7 +4,8 @@ ghost use Rattle.std.specs.Prelude.{◌≡◌, ◌<◌, ◌^◌, length, replica
 ghost use Rattle.porch_syntax.specs.Tree.{program_of};
 ghost use Rattle.porch_flat.specs.Valid.{int_type};
 ghost use Rattle.porch_flat.specs.declared.valid.ValidFault.TheVariants.{NoMemory};
-ghost use Rattle.porch_lower.specs.Code.{main_code as code_of_main, main_temps as temps_of_main, main_function as function_of_main, flat_of};
+ghost use Rattle.porch_lower.specs.Code.{main_code as code_of_main, main_temps as temps_of_main};
+ghost use Rattle.porch_lower.specs.inside.Programs.{main_function as function_of_main, flat_of};
 ghost use Rattle.porch_lower.specs.Lowered.{IsLowerable, IsLowered, MeansTheSame};
 
 use crate::statement::{declarations, statements};

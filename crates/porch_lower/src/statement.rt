@@ -14,7 +14,8 @@ use std::alloc::AllocError;
 
 /// A loop before its body.
 fn loop_head(body: u32, test: u32, commands: &mut Items<Command>) -> Result<(), AllocError>
-    ensures { OnOk result (commands.new ≡ commands.old ++ command.Jump test ∷ command.Label body ∷ command.Turn ∷ []) }
+    ensures { OnOk result (commands.new
+        ≡ commands.old ++ command.Jump test ∷ command.Label body ∷ command.Turn ∷ []) }
 {
     commands.push(Command::Jump(test))?;
     commands.push(Command::Label(body))?;
@@ -30,7 +31,9 @@ fn loop_test(
     commands: &mut Items<Command>,
 ) -> Result<(), AllocError>
     requires { from + 1 + temps_of (node_of condition.now) < 2 ^ 31 }
-    ensures { OnOk result (commands.new ≡ commands.old ++ command.Label test ∷ (operand_code (node_of condition.now) from ++ command.If (operand_in (node_of condition.now) from) body ∷ [])) }
+    ensures { OnOk result (commands.new
+        ≡ commands.old ++ command.Label test ∷ (operand_code (node_of condition.now) from
+        ++ command.If (operand_in (node_of condition.now) from) body ∷ [])) }
 {
     commands.push(Command::Label(test))?;
     let operand = held(condition, from, from + 1, commands)?;
@@ -41,8 +44,10 @@ fn loop_test(
 #[cycle(statement)]
 fn statement(statement: &Stmt, from: u32, commands: &mut Items<Command>) -> Result<(), AllocError>
     requires few { from + action_temps (action_of statement.now) < 2 ^ 31 }
-    requires short { length commands.old + length (action_code from (length commands.old) (action_of statement.now)) < 2 ^ 30 }
-    ensures { OnOk result (commands.new ≡ commands.old ++ action_code from (length commands.old) (action_of statement.now)) }
+    requires short { length commands.old
+        + length (action_code from (length commands.old) (action_of statement.now)) < 2 ^ 30 }
+    ensures { OnOk result (commands.new
+        ≡ commands.old ++ action_code from (length commands.old) (action_of statement.now)) }
 {
     match statement {
         Stmt::Assign { variable, value } => into(value, *variable, from, commands),
@@ -66,9 +71,15 @@ fn repeat(
     from: u32,
     commands: &mut Items<Command>,
 ) -> Result<(), AllocError>
-    requires few { from + action_temps (loop_of (node_of condition.now) (actions_of (map action_of body.now))) < 2 ^ 31 }
-    requires short { length commands.old + length (action_code from (length commands.old) (loop_of (node_of condition.now) (actions_of (map action_of body.now)))) < 2 ^ 30 }
-    ensures { OnOk result (commands.new ≡ commands.old ++ action_code from (length commands.old) (loop_of (node_of condition.now) (actions_of (map action_of body.now)))) }
+    requires few { from
+        + action_temps (loop_of (node_of condition.now) (actions_of (map action_of body.now)))
+        < 2 ^ 31 }
+    requires short { length commands.old
+        + length (action_code from (length commands.old)
+        (loop_of (node_of condition.now) (actions_of (map action_of body.now)))) < 2 ^ 30 }
+    ensures { OnOk result (commands.new
+        ≡ commands.old ++ action_code from (length commands.old)
+        (loop_of (node_of condition.now) (actions_of (map action_of body.now)))) }
 {
     let place = commands.len() as u32;
     let first = 2 * place;
@@ -86,8 +97,12 @@ pub(crate) fn statements(
     commands: &mut Items<Command>,
 ) -> Result<(), AllocError>
     requires few { from + actions_temps (actions_of (map action_of statements.now)) < 2 ^ 31 }
-    requires short { length commands.old + length (actions_code from (length commands.old) (actions_of (map action_of statements.now))) < 2 ^ 30 }
-    ensures { OnOk result (commands.new ≡ commands.old ++ actions_code from (length commands.old) (actions_of (map action_of statements.now))) }
+    requires short { length commands.old
+        + length (actions_code from (length commands.old)
+        (actions_of (map action_of statements.now))) < 2 ^ 30 }
+    ensures { OnOk result (commands.new
+        ≡ commands.old ++ actions_code from (length commands.old)
+        (actions_of (map action_of statements.now))) }
 {
     for one in statements {
         statement(one, from, commands)?;
@@ -103,7 +118,9 @@ fn declaration(
     commands: &mut Items<Command>,
 ) -> Result<(), AllocError>
     requires few { from + declarations_temps (option_map node_of initialiser.now ∷ []) < 2 ^ 31 }
-    ensures { OnOk result (commands.new ≡ commands.old ++ declarations_code from variable (option_map node_of initialiser.now ∷ [])) }
+    ensures { OnOk result (commands.new
+        ≡ commands.old ++ declarations_code from variable
+        (option_map node_of initialiser.now ∷ [])) }
 {
     match initialiser {
         None => Ok(()),
@@ -119,7 +136,8 @@ pub(crate) fn declarations(
 ) -> Result<(), AllocError>
     requires few { from + declarations_temps (map (option_map node_of) declarations.now) < 2 ^ 31 }
     requires short { length declarations.now < 2 ^ 30 }
-    ensures { OnOk result (commands.new ≡ commands.old ++ declarations_code from 0 (map (option_map node_of) declarations.now)) }
+    ensures { OnOk result (commands.new
+        ≡ commands.old ++ declarations_code from 0 (map (option_map node_of) declarations.now)) }
 {
     for (variable, initialiser) in declarations.iter().enumerate() {
         declaration(initialiser, variable as u32, from, commands)?;

@@ -22,7 +22,8 @@ fn factors_temps(factors: &[Expr]) -> u32
 /// Those of terms.
 #[cycle(temporaries)]
 fn terms_temps(terms: &[(Sign, Expr)]) -> u32
-    ensures { result ≡ min (temps_of_terms (terms_of (map (λ t. (t.0, node_of t.1)) terms.now))) (2 ^ 32 - 1) }
+    ensures { result ≡ min (temps_of_terms (terms_of (map (λ t. (t.0, node_of t.1)) terms.now)))
+        (2 ^ 32 - 1) }
 {
     let mut most = 0;
     for (_, term) in terms {
@@ -77,7 +78,8 @@ fn statement_temps(statement: &Stmt) -> u32
 /// Those of statements.
 #[cycle(statement_temporaries)]
 pub(crate) fn statements_temps(statements: &[Stmt]) -> u32
-    ensures { result ≡ min (temps_of_actions (actions_of (map action_of statements.now))) (2 ^ 32 - 1) }
+    ensures { result ≡ min (temps_of_actions (actions_of (map action_of statements.now)))
+        (2 ^ 32 - 1) }
 {
     let mut most = 0;
     for statement in statements {
@@ -88,7 +90,8 @@ pub(crate) fn statements_temps(statements: &[Stmt]) -> u32
 
 /// Those of a declaration.
 fn declaration_temps(initialiser: &Option<Expr>) -> u32
-    ensures { result ≡ min (temps_of_declarations (option_map node_of initialiser.now ∷ [])) (2 ^ 32 - 1) }
+    ensures { result ≡ min (temps_of_declarations (option_map node_of initialiser.now ∷ []))
+        (2 ^ 32 - 1) }
 {
     match initialiser {
         None => 0,
@@ -98,7 +101,8 @@ fn declaration_temps(initialiser: &Option<Expr>) -> u32
 
 /// Those of declarations.
 pub(crate) fn declarations_temps(declarations: &[Option<Expr>]) -> u32
-    ensures { result ≡ min (temps_of_declarations (map (option_map node_of) declarations.now)) (2 ^ 32 - 1) }
+    ensures { result ≡ min (temps_of_declarations (map (option_map node_of) declarations.now))
+        (2 ^ 32 - 1) }
 {
     let mut most = 0;
     for initialiser in declarations {

@@ -1,5 +1,6 @@
 -- How a run of a valid program is kept, and which state it stands for: one frame, of ints. Only private contracts cite it.
-use Rattle.std.specs.Prelude.{ℕ, ◌<◌, ◌+◌, ℤ, pos, List, [], ◌∷◌, ◌++◌, map, slice_set, Option, Some, None, ⊤}
+use Rattle.std.specs.Prelude.{ℕ, ◌+◌, ℤ, pos, List, [], ◌∷◌, ◌++◌, map, replicate, slice_set, Option, Some, None, Result}
+use Rattle.std.specs.declared.alloc.AllocError.{AllocError}
 use Rattle.porch_objects.specs.Store.{Value, number, indeterminate, one_of, Object, Activation, Store, store_of}
 use Rattle.porch_flat.specs.Valid.{int_type}
 use Rattle.porch_abstract.specs.declared.effects.Effect.{Effect}
@@ -7,6 +8,8 @@ use Rattle.porch_abstract.specs.declared.effects.Effect.TheVariants.{On, Set, Sh
 use Rattle.porch_abstract.specs.declared.phase.Phase as kept
 use Rattle.porch_abstract.specs.declared.phase.Phase.TheVariants.{Begun, Running, Over}
 use Rattle.porch_abstract.specs.declared.run.Run.{Run}
+use Rattle.porch_abstract.specs.declared.phase.AStep.{AStep}
+use Rattle.porch_abstract.specs.Held.{Answers}
 use Rattle.porch_abstract.specs.Machine.{Frame, Phase, before, running, over, State, Next, Goes, Ends, Meets}
 
 -- the value of a variable
@@ -48,15 +51,6 @@ state_in phase vars next output turns =
 abbrev pub state_of : Run → State
 state_of run = state_in run.phase run.vars.items run.next run.output.items run.turns
 
--- turn 1 was counted, unless the run has not begun
-abbrev pub IsCountedIn : kept.Phase → ℕ → Type 0
-IsCountedIn Begun turns = ⊤
-IsCountedIn Running turns = 0 < turns
-IsCountedIn Over turns = 0 < turns
-
-abbrev pub IsCounted : Run → Type 0
-IsCounted run = IsCountedIn run.phase run.turns
-
 -- what an effect leads to
 abbrev pub effected : List (Option ℤ) → ℕ → List ℕ → ℕ → Effect → Next
 effected vars next output turns On = Goes (state_in Running vars (next + 1) output turns)
@@ -70,3 +64,12 @@ effected vars next output turns (Meet a) = Meets a
 -- what an effect leads to, from what is kept
 abbrev pub led_to : Run → Effect → Next
 led_to run effect = effected run.vars.items run.next run.output.items run.turns effect
+
+-- what an effect leads to is answered
+abbrev pub Led : Run → Run → Effect → Result AStep AllocError → Type 0
+Led old new effect r = Answers (led_to old effect) (state_of old) (state_of new) r
+
+-- the call of main, which has so many variables, is answered
+abbrev pub Called : Run → Run → ℕ → Result AStep AllocError → Type 0
+Called old new count r =
+    Answers (Goes (state_in Running (replicate count None) 0 old.output.items (old.turns + 1))) (state_of old) (state_of new) r

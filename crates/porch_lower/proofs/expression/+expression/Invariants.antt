@@ -1,6 +1,6 @@
 use Rattle.std.proofs.Common.{◌≡◌, ◌<◌, ◌+◌, ◌^◌, ◌++◌, drop}
 use Rattle.porch_lower.specs.Code.{factors_temps, terms_temps}
-use Rattle.porch_lower.specs.Rows.{factors_from, terms_from}
+use Rattle.porch_lower.specs.inside.Rows.{factors_from, terms_from}
 use Rattle.porch_lower.proofs.Expressions.{row, term_row}
 use Rattle.porch_lower.proofs.expression.+expression.Given as goal
 
