@@ -2,6 +2,7 @@
 use Rattle.std.specs.Prelude.{ℕ, ◌≡◌, ◌<◌, ◌+◌, ◌^◌, ◌⊎◌, List, [], ◌∷◌, length, slice_get, codes, All, IsTrue, Some, None, ⊤}
 use Rattle.porch_types.specs.declared.shapes.Kind.TheVariants.{Int}
 use Rattle.porch_types.specs.Leaves.{kind_types}
+pub use Rattle.porch_types.specs.Kinds.{int_type}
 use Rattle.porch_values.specs.Integers.{in_range}
 use Rattle.porch_flat.specs.declared.flat.Operand.{Operand}
 use Rattle.porch_flat.specs.declared.flat.Operand.TheVariants.{Var, Constant}
@@ -12,10 +13,6 @@ use Rattle.porch_flat.specs.declared.flat.Flat.{Flat}
 use Rattle.porch_flat.specs.declared.valid.ValidFault.{ValidFault}
 use Rattle.porch_flat.specs.declared.valid.ValidFault.TheVariants.{NotValid, NoMemory}
 use Rattle.porch_flat.specs.Places.{place_of_label}
-
--- the number of the type int
-abbrev pub int_type : ℕ
-int_type = 4
 
 -- Number and Constant: a variable exists, a constant is an int.
 abbrev pub IsOperand : Function → Operand → Type 0

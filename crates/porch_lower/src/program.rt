@@ -13,12 +13,9 @@ use crate::temporaries::{declarations_temps, statements_temps};
 use porch_abstract::laws::silent_steps_tell_nothing;
 use porch_flat::{Command, Flat, Function, Operand, Plain, ValidFault};
 use porch_syntax::Tree;
-use porch_types::Types;
+use porch_types::{INT, Types};
 use sqlite_items::Items;
 use std::alloc::{AllocError, Global};
-
-/// The number of the type int.
-const INT: u32 = 4;
 
 /// So many ints.
 fn ints(alloc: Global, count: u32) -> Result<Items<u32>, AllocError>

@@ -7,6 +7,7 @@ use Rattle.porch_syntax.specs.declared.tree.Sign.TheVariants.{Plus, Minus}
 use Rattle.porch_syntax.specs.Tree.{Node, variable, whole, character, nested, product, sum, less, Nodes, no_nodes, node, Terms, no_terms, term, Action, assign, repeat, putchar, give, Actions, no_actions, action, Program}
 use Rattle.porch_types.specs.declared.shapes.Kind.TheVariants.{Int}
 use Rattle.porch_types.specs.declared.shapes.Ty.{Ty}
+use Rattle.porch_types.specs.Kinds.{int_type}
 use Rattle.porch_values.specs.declared.acts.Act.{Act}
 use Rattle.porch_values.specs.declared.acts.Act.TheVariants.{Indeterminate}
 use Rattle.porch_values.specs.declared.acts.Op.{Op}
@@ -131,10 +132,6 @@ back (Went v s) = Went (number (pos 0)) (returned s)
 back (Gave v s) = Went v (returned s)
 back (Undefined a s) = Undefined a s
 back (Stopped s) = Stopped s
-
--- the number of the type int, which is the fifth of the eight kinds
-abbrev pub int_type : ℕ
-int_type = 4
 
 -- the variables of main are ints
 abbrev pub roots_of : Program → List Root
