@@ -40,15 +40,15 @@ pub enum Operator {
     Shift(Op, Kind),
     /// Integers, converted to the kind.
     Compare(Comparison, Kind),
-    /// Pointers of a type.
+    /// Two pointers of the pointer type.
     ComparePointers(Comparison, u32),
-    /// A pointer of a type and an integer.
+    /// A pointer, which is of the type, and an integer.
     Forward(u32),
-    /// A pointer of a type less an integer.
+    /// A pointer, which is of the type, less an integer.
     Back(u32),
-    /// An integer and a pointer of a type.
+    /// An integer, and a pointer of the type.
     ForwardOf(u32),
-    /// Two pointers of a type.
+    /// Two pointers of the pointer type; the result is a long.
     Difference(u32),
 }
 
@@ -69,7 +69,8 @@ pub enum Conversion {
     UnsignedLong,
 }
 
-/// An expression. What has a type holds its number first.
+/// An expression. A type that it holds is its own, so that of an address is a pointer type; that of an
+/// assignment and of an increment is its place's too.
 #[cycle(typed)]
 #[derive(Drop)]
 pub enum Expression {
