@@ -71,6 +71,8 @@ class SpecFile:
         self.definitions = {}
         self.owners = {}
         self.scope = Scope()
+        # What a `pub use` gives on to those that import this file.
+        self.given_on = Scope()
         self.read()
 
     def read(self):
@@ -86,11 +88,14 @@ class SpecFile:
             while blocks and indent <= blocks[-1][0]:
                 blocks.pop()
             body = line.strip()
-            if re.match(r"use\s", body):
+            if re.match(r"(?:pub\s+)?use\s", body):
                 while "{" in body and "}" not in body:
                     body += " " + uncommented(lines[number]).strip()
                     number += 1
-                self.scope.use(body, self)
+                line = body.removeprefix("pub ")
+                self.scope.use(line, self)
+                if line != body:
+                    self.given_on.use(line, self)
                 continue
             if re.match(r"pub mod\s", body) or re.match(r"mod\s", body):
                 continue
@@ -239,6 +244,8 @@ def lookup(path, name):
             found = files[module].owners.get(name)
             if found:
                 return found
+            if files[module].given_on.name(name):
+                return lookup(*files[module].given_on.name(name))
         raise Unresolved(f"{path} has no {name}")
     if parts[2] == "proofs":
         return Outside(path, name)
