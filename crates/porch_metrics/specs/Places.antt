@@ -1,4 +1,5 @@
--- Where the leaves of a type begin, in bytes.
+-- Where the leaves of a type begin, in bytes, by going down the parts that hold them. PlacedRows says
+-- it of rows, without a search.
 use Rattle.std.specs.Prelude.{ℕ, zero, suc, ◌+◌, ◌-◌, ◌*◌, ◌/◌, ◌%◌, List, slice_get, slice_index, Option, Some, None}
 use Rattle.std.specs.Option.{option_map_or}
 use Rattle.porch_types.specs.declared.shapes.Ty.{Ty}

@@ -1,5 +1,6 @@
 //! Sizes, alignments and places of types under a layout, and packed as in a UCF file. It stands on
-//! `porch_types` and `porch_layout`. Start at `Metrics`.
+//! `porch_types` and `porch_layout`. Start at `Metrics`; what is true of each layout and each list of
+//! types is said by the laws, which are functions without a body.
 #![tactic(auto)]
 
 mod descent;
