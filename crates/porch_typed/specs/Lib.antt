@@ -6,3 +6,5 @@ pub mod Views
 pub mod Size
 -- which trees are typed
 pub mod Typed
+-- small functions
+pub mod Worked

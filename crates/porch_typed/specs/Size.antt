@@ -1,5 +1,5 @@
 -- How many nodes a typed tree has.
-use Rattle.std.specs.Prelude.{ℕ, ◌+◌, List, sum_by, Option, Some, None}
+use Rattle.std.specs.Prelude.{ℕ, ◌+◌, sum_by, Option, Some, None}
 use Rattle.porch_typed.specs.Mirror.{Expression, constant, null_pointer, read, whole, address, first, row, all_of, any_of, unary, isnt, choice, sequence, assign, assign_by, increment, conversion, discard, member_of, call, put_character, put_text, put_literal, print, allocate, release, checkpoint, Expressions, no_expressions, with_expression, Steps, no_steps, with_step, Place, variable, global, pointee, member, Print, bytes, number, text, literal, Prints, no_prints, with_print, Initial, nothing, value, filled, Statement, block, declare, evaluate, choose, repeat_while, repeat_until, repeat_for, switch, leave_loop, go_round, give, Statements, no_statements, with_statement, SwitchEntry, case, default, statement, SwitchEntries, no_entries, with_entry, Function, Program}
 
 abbrev mutual

@@ -1,5 +1,5 @@
 -- What the code's tree is as plain data: one layer for each type, and one fold of each family.
-use Rattle.std.specs.Prelude.{ℕ, List, [], ◌∷◌, map, Option, Some, None}
+use Rattle.std.specs.Prelude.{List, [], ◌∷◌, map}
 use Rattle.std.specs.Option.{option_map}
 use Rattle.porch_typed.specs.declared.typed.Operator.{Operator}
 use Rattle.porch_typed.specs.declared.typed.Expression as code_expression
