@@ -4,13 +4,8 @@ ghost use Rattle.std.specs.Prelude.{◌≡◌, ◌<◌, ◌≤◌, ◌+◌, ◌*
 ghost use Rattle.porch_layout.specs.Layouts.{IsLayout};
 ghost use Rattle.porch_types.specs.Leaves.{parts_of};
 ghost use Rattle.porch_metrics.specs.Extents.{kind_extent};
-ghost use Rattle.porch_metrics.specs.inside.Tables.{
-  extents_in,
-  AreSmall,
-  IsStructMeasured,
-  IsTypeMeasured,
-  IsTable,
-};
+ghost use Rattle.porch_metrics.specs.inside.Tables.{extents_in, AreSmall, IsTable};
+ghost use Rattle.porch_metrics.specs.inside.Tables.{IsStructMeasured, IsTypeMeasured};
 
 use crate::rounding::rounded_up;
 use porch_layout::Layout;
