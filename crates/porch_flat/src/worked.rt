@@ -1,17 +1,20 @@
 //! What the rules say of some small programs. The functions are laws, and have nothing to run.
 
-ghost use Rattle.std.specs.Prelude.{◌≡◌, true, false};
+ghost use Rattle.std.specs.Prelude.{◌≡◌, true, Some};
+ghost use Rattle.porch_flat.specs.declared.whole.Command.TheVariants.{Checkpoint};
 ghost use Rattle.porch_flat.specs.declared.whole.FlatRule.TheVariants.{Main, Modes};
 ghost use Rattle.porch_flat.specs.declared.whole.Sort.TheVariants.{Plain, Rewritten};
-ghost use Rattle.porch_flat.specs.whole.Lines.{line_behind};
+ghost use Rattle.porch_flat.specs.whole.Lines.{command_line, line_at, line_behind, line_of_command};
 ghost use Rattle.porch_flat.specs.whole.Rules.{Breaks};
-ghost use Rattle.porch_flat.specs.whole.Worked.{saving_program, empty_program, keeps_all};
+ghost use Rattle.porch_flat.specs.whole.Worked.{saving_main, saving_program, empty_program, keeps_all};
 
 /// A program that saves and rebuilds its frame keeps each rule, in a text of 15 lines.
 #[tactic(auto, unfolding(crate::specs::whole::Rewritten::reaches_within))]
 pub fn a_saving_program_is_valid()
     ensures rules { keeps_all Rewritten saving_program ≡ true }
     ensures lines { line_behind saving_program ≡ 16 }
+    ensures checkpoint { line_of_command saving_program 0 3 ≡ 9 }
+    ensures here { line_at saving_program 9 ≡ Some (command_line saving_main 3 Checkpoint) }
 {}
 
 /// Where none is asked for that saves, it breaks Modes at the line of its function.

@@ -7,15 +7,9 @@ use Rattle.porch_tree.specs.declared.word.Mark.TheVariants.{OpenBrace}
 use Rattle.porch_tree.specs.declared.word.Word.{Word}
 use Rattle.porch_tree.specs.declared.word.Word.TheVariants as word
 use Rattle.porch_tree.specs.Mirror.{TranslationUnit}
-use Rattle.porch_tree.specs.Pieces.{Piece, unit_pieces}
+use Rattle.porch_tree.specs.Pieces.{Spelled, Piece, unit_pieces}
 use Rattle.porch_tree.specs.Names.{ReadsNames}
 use Rattle.porch_tree.specs.Formed.{AreItems}
-
--- a token as the grammar sees it
-pub record Spelled : Type 0 where
-  pub word : Word
-  pub at : ℕ
-  pub bytes : List ℕ
 
 -- the most counted uses of the grammar that may lie in one another
 abbrev pub MOST_USES : ℕ

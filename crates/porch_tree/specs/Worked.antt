@@ -1,5 +1,5 @@
 -- Some small units, as trees and as tokens.
-use Rattle.std.specs.Prelude.{ℕ, zero, suc, List, [], ◌∷◌, codes, map, None}
+use Rattle.std.specs.Prelude.{ℕ, zero, suc, List, [], ◌∷◌, ◌++◌, codes, map, take, None}
 use Rattle.porch_tree.specs.declared.word.Keyword.TheVariants as key
 use Rattle.porch_tree.specs.declared.word.Mark.TheVariants as mark
 use Rattle.porch_tree.specs.declared.word.Word.{Word}
@@ -8,8 +8,7 @@ use Rattle.porch_tree.specs.declared.tree.Infix.TheVariants.{Sub}
 use Rattle.porch_tree.specs.declared.tree.Level.TheVariants.{Sum}
 use Rattle.porch_tree.specs.declared.tree.Prefix.TheVariants.{Increase}
 use Rattle.porch_tree.specs.Mirror.{Name, Expr, name, whole, nested, prefixed, row, no_operands, with_operand, present, kind, declarator, named, void_list, no_brackets, with_bracket, give, no_stmts, with_stmt, Definition, function, TranslationUnit}
-use Rattle.porch_tree.specs.Pieces.{Piece}
-use Rattle.porch_tree.specs.Grammar.{Spelled}
+use Rattle.porch_tree.specs.Pieces.{Spelled, Piece}
 
 abbrev pub name_at : ℕ → List ℕ → Name
 name_at at bytes = record { at = at; bytes = bytes }
@@ -60,3 +59,24 @@ difference = row Sum (nested 0 t) (with_operand Sub x no_operands)
 
 abbrev pub increased_t : Expr
 increased_t = prefixed 0 Increase (nested 2 t)
+
+-- int main(void){}
+abbrev pub empty_function : Definition
+empty_function =
+    record {
+      fixed = None;
+      base = small_function.base;
+      declarator = small_function.declarator;
+      declarations = [];
+      body = no_stmts;
+    }
+
+abbrev pub empty_unit : TranslationUnit
+empty_unit = function empty_function ∷ []
+
+-- int main(void){float
+abbrev pub float_tokens : List Spelled
+float_tokens = take 6 small_tokens ++ token (word.Key key.Float) 15 (codes "float") ∷ []
+
+abbrev pub brace_tokens : List Spelled
+brace_tokens = token (word.Mark mark.CloseBrace) 15 (codes "}") ∷ []

@@ -5,8 +5,8 @@ ghost use Rattle.porch_tree.specs.declared.word.Keyword.TheVariants.{Char, Const
 ghost use Rattle.porch_tree.specs.Pieces.{unit_pieces, expr_pieces};
 ghost use Rattle.porch_tree.specs.Formed.{is_kind};
 ghost use Rattle.porch_tree.specs.Names.{ReadsExpr};
-ghost use Rattle.porch_tree.specs.Grammar.{IsUnit};
-ghost use Rattle.porch_tree.specs.Worked.{small_unit, small_tokens, uses_of, in_parentheses, x, t, difference, increased_t};
+ghost use Rattle.porch_tree.specs.Grammar.{IsOutside, IsUnit};
+ghost use Rattle.porch_tree.specs.Worked.{small_unit, small_tokens, float_tokens, uses_of, in_parentheses, x, t, difference, increased_t};
 ghost use Rattle.porch_tree.specs.Mirror.{conditional};
 
 /// The words of `int main(void){return 0;}`, and in how many counted uses each lies.
@@ -15,9 +15,10 @@ pub fn a_small_unit_has_these_pieces()
     ensures uses { uses_of (unit_pieces small_unit) ≡ 0 ∷ 1 ∷ 1 ∷ 1 ∷ 1 ∷ 1 ∷ 2 ∷ 4 ∷ 2 ∷ 1 ∷ [] }
 {}
 
-/// `int main(void){return 0;}` is that unit.
+/// `int main(void){return 0;}` is that unit, and in `int main(void){float` the last word is outside.
 pub fn a_small_unit_is_one()
-    ensures { IsUnit small_tokens small_unit }
+    ensures unit { IsUnit small_tokens small_unit }
+    ensures outside { IsOutside float_tokens 6 }
 {}
 
 /// In the block of a function each parenthesis adds two uses, and a conditional one more.

@@ -1,5 +1,5 @@
 -- The lines of a program's text, behind the two that every text begins with. Lines are numbered from 1.
-use Rattle.std.specs.Prelude.{ℕ, ◌+◌, ◌-◌, nat_lt, if◌then◌else◌, List, [], ◌∷◌, ◌++◌, length, drop, slice_get, Option, None}
+use Rattle.std.specs.Prelude.{ℕ, ◌+◌, ◌-◌, nat_lt, if◌then◌else◌, List, [], ◌∷◌, ◌++◌, length, drop, take, sum_by, slice_get, Option, Some, None}
 use Rattle.porch_types.specs.declared.shapes.Ty.{Ty}
 use Rattle.porch_flat.specs.declared.flat.Init.{Init}
 use Rattle.porch_flat.specs.declared.flat.GlobalObject.{GlobalObject}
@@ -57,3 +57,24 @@ line_at flat line = if nat_lt line 3 then None else slice_get (lines_of flat) (l
 -- the line behind the last
 abbrev pub line_behind : Flat → ℕ
 line_behind flat = length (lines_of flat) + 3
+
+-- how many lines a global and a function have
+abbrev pub global_size : GlobalObject → ℕ
+global_size g = 1 + length g.inits
+
+abbrev pub function_size : Function → ℕ
+function_size f = length f.vars + length f.commands + 3
+
+abbrev pub var_count : Option Function → ℕ
+var_count None = 0
+var_count (Some f) = length f.vars
+
+-- the line of a function, and that of a command of it
+abbrev pub line_of_function : Flat → (function : ℕ) → ℕ
+line_of_function flat n =
+    3 + length (drop 8 flat.types) + sum_by global_size flat.globals
+    + sum_by function_size (take n flat.functions)
+
+abbrev pub line_of_command : Flat → (function place : ℕ) → ℕ
+line_of_command flat n place =
+    line_of_function flat n + 2 + var_count (slice_get flat.functions n) + place

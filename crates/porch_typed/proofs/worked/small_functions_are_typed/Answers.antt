@@ -6,7 +6,6 @@ use Rattle.porch_typed.specs.Typed.{arithmetic, IsScalar}
 use Rattle.porch_typed.specs.Worked.{two_functions}
 use Rattle.porch_typed.proofs.worked.small_functions_are_typed.Goals as goal
 
--- src/worked.rt:9:1
 pub returns-clause-gives : goal.returns-clause-gives
 returns-clause-gives c = record {
   variables = All-nil _;
@@ -16,7 +15,6 @@ returns-clause-gives c = record {
   body = ((4, refl, (refl, search rules)), tt);
 }
 
--- src/worked.rt:9:1
 pub returns-clause-adds : goal.returns-clause-adds
 returns-clause-adds c =
     record {
