@@ -51,6 +51,7 @@ pub record IsCompiled (p : Program) (flat : Flat) : Type 0 where
   pub lowered : IsLowered p flat
   pub same : MeansTheSame p flat
 
+-- a run by its end, its turns and its output
 abbrev pub run_by : ByteEnd → ℕ → List ℕ → ByteRun
 run_by ending turns output = record { ending = ending; turns = turns; output = output }
 

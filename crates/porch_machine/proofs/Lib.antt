@@ -3,7 +3,7 @@ pub mod Columns
 pub mod Stepping
 pub mod Resolutions
 pub mod Falls
-pub mod Turns
+pub mod CountedTurns
 pub mod Cells
 pub mod Simple
 pub mod Simulates
