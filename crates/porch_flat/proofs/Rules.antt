@@ -1,5 +1,5 @@
 -- The rules of a program, from those of its parts.
-use Rattle.std.proofs.Common.{◌≡◌, ◌<◌, ◌+◌, ◌^◌, ◌↔◌, ℕ, IsTrue, Bool, List, [], ◌∷◌, length, Some, arith, sym, ap, ◌∙◌, subst}
+use Rattle.std.proofs.Common.{◌≡◌, ◌<◌, ◌≤◌, ◌+◌, ◌^◌, ◌↔◌, ℕ, IsTrue, Bool, List, [], ◌∷◌, length, Some, arith, sym, ap, ◌∙◌, subst}
 use Rattle.std.proofs.Math.ListN.{get_or}
 use Rattle.std.proofs.lemmas.Bool.{cases_lt}
 use Rattle.std.proofs.lemmas.Option.{slice_get-get_or, slice_get_within, same_Some}
@@ -26,7 +26,7 @@ commands_more f at c before here rules_of = record {
   ];
 }
 
-pub function_from : (f : Function) → length f.vars < 2 ^ 31 → AreCommands f (length f.commands) → IsFunction f
+pub function_from : (f : Function) → length f.vars ≤ 2 ^ 31 → AreCommands f (length f.commands) → IsFunction f
 function_from f few all = record {
   few = few;
   parts = λ at c e. (all.each at c (slice_get_within f.commands at c e) e).parts;

@@ -1,5 +1,5 @@
 -- Which flat programs are valid. Each rule speaks of the function that a command stands in.
-use Rattle.std.specs.Prelude.{ℕ, ◌≡◌, ◌<◌, ◌+◌, ◌^◌, ◌⊎◌, List, [], ◌∷◌, length, slice_get, codes, All, IsTrue, Some, None, ⊤}
+use Rattle.std.specs.Prelude.{ℕ, ◌≡◌, ◌<◌, ◌≤◌, ◌+◌, ◌^◌, ◌⊎◌, List, [], ◌∷◌, length, slice_get, codes, All, IsTrue, Some, None, ⊤}
 use Rattle.porch_types.specs.declared.shapes.Kind.TheVariants.{Int}
 use Rattle.porch_types.specs.Leaves.{kind_types}
 pub use Rattle.porch_types.specs.Kinds.{int_type}
@@ -48,7 +48,7 @@ GoesOnWell commands at _ = ⊤
 
 -- a function that breaks no rule
 pub record IsFunction (f : Function) : Type 0 where
-  pub few : length f.vars < 2 ^ 31
+  pub few : length f.vars ≤ 2 ^ 31
   pub parts : (at : ℕ) (c : Command) → slice_get f.commands at ≡ Some c → HasParts f c
   pub jumps : (at : ℕ) (c : Command) → slice_get f.commands at ≡ Some c → GoesOnWell f.commands at c
 

@@ -37,13 +37,15 @@ fn is_operand(function: &Function, operand: Operand) -> bool
 }
 
 fn is_unary(function: &Function, variable: u32, operand: Operand) -> bool
-    ensures { IsTrue result ↔ ((variable < length function.now.vars) × IsOperand function.now operand) }
+    ensures { IsTrue result
+        ↔ ((variable < length function.now.vars) × IsOperand function.now operand) }
 {
     has_variable(function, variable) && is_operand(function, operand)
 }
 
 fn is_binary(function: &Function, variable: u32, left: Operand, right: Operand) -> bool
-    ensures { IsTrue result ↔ ((variable < length function.now.vars) × IsOperand function.now left × IsOperand function.now right) }
+    ensures { IsTrue result ↔ ((variable < length function.now.vars) × IsOperand function.now left
+        × IsOperand function.now right) }
 {
     has_variable(function, variable) && is_operand(function, left) && is_operand(function, right)
 }
@@ -107,7 +109,8 @@ fn command_at(commands: &[Command], place: usize) -> Option<Command>
 // Whether a jump from one place may lead to another.
 fn leads_to(commands: &[Command], from: usize, to: usize) -> bool
     requires { to < length commands.now }
-    ensures { IsTrue result ↔ ((from < to) ⊎ (slice_get commands.now (to + 1) ≡ Some Command.Turn)) }
+    ensures { IsTrue result
+        ↔ ((from < to) ⊎ (slice_get commands.now (to + 1) ≡ Some Command.Turn)) }
 {
     from < to || is_turn(command_at(commands, to + 1))
 }
@@ -174,7 +177,7 @@ fn are_commands(function: &Function, labels: &Labels) -> bool
 fn is_function(alloc: Global, function: &Function) -> Result<bool, AllocError>
     ensures { IfOk result (λ valid. IsTrue valid ↔ IsFunction function.now) }
 {
-    if function.vars.len() >= 0x8000_0000 {
+    if function.vars.len() > 0x8000_0000 {
         return Ok(false);
     }
     let labels = Labels::new(alloc, function.commands.as_slice())?;

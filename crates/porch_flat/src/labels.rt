@@ -28,7 +28,8 @@ impl Model for Labels {
 impl Labels {
     /// The places of the labels in a list of commands.
     pub fn new(alloc: Global, commands: &[Command]) -> Result<Labels, AllocError>
-        ensures { IfOk result (λ labels. (n : ℕ) → place_in labels n ≡ place_of_label commands.now n) }
+        ensures { IfOk result (λ labels. (n : ℕ)
+            → place_in labels n ≡ place_of_label commands.now n) }
     {
         let mut places = IndexMap::new(alloc);
         for (at, command) in commands.iter().enumerate() {
@@ -47,7 +48,9 @@ impl Labels {
 
 // Takes note of a label, unless its number stood before.
 fn note(places: &mut IndexMap<u32, usize>, at: usize, command: &Command) -> Result<(), AllocError>
-    ensures { OnOk result ((n : ℕ) → place_in places.new.entries n ≡ first_place (place_in places.old.entries n) (is_label n command.now) at) }
+    ensures { OnOk result ((n : ℕ)
+        → place_in places.new.entries n ≡ first_place (place_in places.old.entries n)
+        (is_label n command.now) at) }
 {
     match command {
         Command::Label(number) => put(places, *number, at),
@@ -65,7 +68,9 @@ fn note(places: &mut IndexMap<u32, usize>, at: usize, command: &Command) -> Resu
 }
 
 fn put(places: &mut IndexMap<u32, usize>, number: u32, at: usize) -> Result<(), AllocError>
-    ensures { OnOk result ((n : ℕ) → place_in places.new.entries n ≡ first_place (place_in places.old.entries n) (n == number) at) }
+    ensures { OnOk result ((n : ℕ)
+        → place_in places.new.entries n ≡ first_place (place_in places.old.entries n) (n == number)
+        at) }
 {
     if !places.contains_key(&number) {
         places.insert(number, at)?;

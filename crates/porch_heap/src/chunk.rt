@@ -94,7 +94,8 @@ impl Chunk {
         requires none { NoRoom align bytes self.old.from (take start self.old.blocks) }
         requires bytes { bytes < 2 ^ 62 }
         requires align { IsAlignment align }
-        ensures found { IfSome result (λ f. IsFound self.old.blocks self.old.from bytes align f.index f.at) }
+        ensures found { IfSome result
+            (λ f. IsFound self.old.blocks self.old.from bytes align f.index f.at) }
         ensures none { IfNone result (NoRoom align bytes self.old.from self.old.blocks) }
         ensures same { self.new ≡ self.old }
     {
@@ -116,7 +117,8 @@ impl Chunk {
         requires low { self.old.from ≤ block.at }
         requires place { Divides self.old.blocks index block.at block.bytes }
         requires high { block.at + block.bytes < 2 ^ 62 }
-        ensures { self.new ≡ record { from = self.old.from; blocks = insert self.old.blocks index block } }
+        ensures { self.new ≡ record
+            { from = self.old.from; blocks = insert self.old.blocks index block } }
     {
         let _ = self.blocks.insert(index, block);
         let gap = width(self.blocks.as_slice(), self.from, index);
@@ -126,7 +128,8 @@ impl Chunk {
     /// Takes the block of a number out.
     pub(crate) fn remove(&mut self, index: usize)
         requires within { index < length self.old.blocks }
-        ensures { self.new ≡ record { from = self.old.from; blocks = remove self.old.blocks index } }
+        ensures { self.new ≡ record
+            { from = self.old.from; blocks = remove self.old.blocks index } }
     {
         let _ = self.blocks.remove(index);
         let gap = width(self.blocks.as_slice(), self.from, index);
@@ -155,9 +158,14 @@ impl Chunk {
     /// Gives the upper half of its blocks to another chunk, in place of that one's own.
     pub(crate) fn split(&mut self, upper: &mut Chunk)
         requires full { length self.old.blocks ≡ 128 }
-        ensures lower { self.new ≡ record { from = self.old.from; blocks = take 64 self.old.blocks } }
+        ensures lower { self.new ≡ record
+            { from = self.old.from; blocks = take 64 self.old.blocks } }
         ensures upper { upper.new
-            ≡ record { from = after self.old.from (take 64 self.old.blocks); blocks = drop 64 self.old.blocks } }
+            ≡ record {
+              from = after self.old.from (take 64 self.old.blocks);
+              blocks = drop 64
+                  self.old.blocks;
+            } }
     {
         upper.blocks.clear();
         let _ = upper
@@ -172,7 +180,8 @@ impl Chunk {
     pub(crate) fn append(&mut self, upper: &Chunk)
         requires next { upper.now.from ≡ after self.old.from self.old.blocks }
         requires room { length self.old.blocks + length upper.now.blocks ≤ 128 }
-        ensures { self.new ≡ record { from = self.old.from; blocks = self.old.blocks ++ upper.now.blocks } }
+        ensures { self.new ≡ record
+            { from = self.old.from; blocks = self.old.blocks ++ upper.now.blocks } }
     {
         let _ = self.blocks.extend_from_slice(upper.blocks.as_slice());
         self.too_large = self.too_large.joined(upper.too_large);

@@ -116,7 +116,8 @@ impl Heap {
         ensures value { result ≡ place_or_full self.old bytes align }
         ensures first { IfOk result (IsFirstGap self.old bytes align) }
         ensures added { IfOk result (λ at.
-            self.new ≡ heap_with (record { at = at; ty = ty; count = count; bytes = bytes }) self.old) }
+            self.new ≡ heap_with (record { at = at; ty = ty; count = count; bytes = bytes })
+            self.old) }
         ensures room { OnOk result (length self.old.blocks < 65536) }
         ensures full { OnErr result (HasNoGap self.old bytes align
             ⊎ (length self.old.blocks ≡ 65536)) }

@@ -88,7 +88,8 @@ pub fn subobjects_nest()
     ensures subobjects { (types : List Ty) (root count place ty inner pointee : ℕ) → IsTypes types
         → IsSubobject types root count place ty → IsSubobject types ty 1 inner pointee
         → IsSubobject types root count (place + inner) pointee }
-    ensures rows { (types : List Ty) (root count ty first len k elements inner pointee : ℕ) (row : Row)
+    ensures rows { (types : List Ty) (root count ty first len k elements inner pointee : ℕ)
+        (row : Row)
         → IsTypes types → IsRow types root count ty first len → k + elements ≤ len
         → IsRowAt types ty elements inner pointee row → pointee ≢ ty
         → IsRowAt types root count (first + k * leaves_of types ty + inner) pointee
