@@ -13,7 +13,7 @@ use Rattle.porch_syntax.specs.Tree.{Program}
 use Rattle.porch_syntax.specs.Language.{IsSource, IsRefusal}
 use Rattle.porch_values.specs.declared.acts.Act.{Act}
 use Rattle.porch_objects.specs.Meaning as meaning
-use Rattle.porch_objects.specs.Meaning.{Meaning}
+use Rattle.porch_objects.specs.Meaning.{Meaning, without_input}
 use Rattle.porch_flat.specs.declared.flat.Flat.{Flat}
 use Rattle.porch_machine.specs.Column.{widths_of}
 use Rattle.porch_machine.specs.ByteRun.{ByteEnd, Ended, Trap, StackFull, Paused, ByteRun, RunsTo}
