@@ -1,5 +1,5 @@
 -- Calls one after another on a disk: what one call more adds to a run of them, and what joins two runs. Each fact is
--- proved here, for all predicates on a file's bytes; no clause cites it.
+-- proved here, for all predicates on a file's bytes; the laws in src/laws.rt say it of tests on them, as clauses can.
 use Rattle.std.specs.Prelude.{◌≡◌, ℕ, Bool, IsTrue, List, take, Result}
 use Rattle.std.proofs.Common.{inl, inr, ⊎_elim, sym, ◌∙◌, ap, subst}
 use Rattle.std.proofs.Math.Nat.{le_refl, le_trans}

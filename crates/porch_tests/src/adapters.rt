@@ -110,30 +110,29 @@ const NAMES: [(FileName, &str); 6] = [
     (FileName::Input, "input"),
 ];
 
-// How many files have what was written to them through the disk, in the order of the names.
-fn count_found(rt: &HostRuntime, disk: &mut DirDisk<HostRuntime>) -> usize {
+// Whether each file has what was written to it through the disk.
+fn are_found(rt: &HostRuntime, disk: &mut DirDisk<HostRuntime>) -> bool {
     for (file, name) in NAMES {
         if disk.write_at(file, 0, name.as_bytes()).is_err() {
-            return 0;
+            return false;
         }
     }
-    let mut found = 0;
     for (_, name) in NAMES {
         match fs::read(rt, name) {
-            Ok(bytes) if bytes.as_slice() == name.as_bytes() => found += 1,
-            _ => return found,
+            Ok(bytes) if bytes.as_slice() == name.as_bytes() => {}
+            _ => return false,
         }
     }
-    found
+    true
 }
 
 #[test]
 fn each_file_has_its_name(rt: HostRuntime) -> Result<(), Fail> {
     let mut disk = DirDisk::new(rt.clone()?);
-    let found = count_found(&rt, &mut disk);
+    let found = are_found(&rt, &mut disk);
     for (_, name) in NAMES {
         let _ = fs::remove_file(&rt, name);
     }
-    assert_eq!(rt; found, NAMES.len());
+    assert_eq!(rt; found, true);
     Ok(())
 }
