@@ -2,11 +2,10 @@
 //! and that each file is the one of its name.
 
 use porch_edge::{DirDisk, Disk, Failed, FileName, Sink, Source, StdSink, StdSource, write_all};
-use std::fs;
-use std::io;
 use std::io::{Read, Write};
 use std::os::unix::fs::symlink;
 use std::test::Fail;
+use std::{fs, io};
 
 // Reads and writes one byte a call, fails in the second, and in the third moves nothing.
 #[derive(Drop)]
