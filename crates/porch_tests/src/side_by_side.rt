@@ -4,7 +4,7 @@ ghost use Rattle.std.specs.Prelude.{◌≡◌, None};
 ghost use Rattle.porch_abstract.specs.Held.{Fits as FitsObjects, Continues};
 ghost use Rattle.porch_abstract.specs.declared.phase.AStep.TheVariants.{Went};
 ghost use Rattle.porch_machine.specs.Steps.{Fits as FitsBytes};
-ghost use Rattle.porch_layout.specs.Layouts.{IsLayout};
+ghost use Rattle.porch_layout.specs.Layouts.{le64};
 
 use porch_abstract::{AStep, Abstract};
 use porch_flat::{Command, Flat, Function, Operand, Valid};
@@ -31,7 +31,7 @@ enum Walk {
 
 /// The layout of the byte machine, as `exec` has it.
 fn layout_of_bytes() -> Layout
-    ensures { IsLayout result }
+    ensures { result ≡ le64 }
 {
     match built_in("le64") {
         Some(layout) => layout,
