@@ -24,7 +24,9 @@ pub enum Act {
     Free,
     /// The number of objects asked for is below 1 or above 2147483647.
     Count,
-    /// An address that is none of a live object's.
+    /// The byte machine alone: an access has a byte outside the globals, the used stack and the heap,
+    /// or isn't aligned; or a sum of addresses is below 0 or past the memory's end. The address of a
+    /// block that was freed is none of these.
     Address,
 }
 
