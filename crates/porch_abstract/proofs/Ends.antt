@@ -90,7 +90,7 @@ module _ (flat : Flat) (under : Environment) (n : ℕ) where
       same_meaning m m' p.last q.last (marks_to flat under n p.steps (begin flat)) (marks_to flat under n q.steps (begin flat))
       (one p.steps q.steps (begin flat) p.last q.last m.ending m'.ending p.ends q.ends)
       p.output_is q.output_is p.turns_are q.turns_are p.marks_are q.marks_are
-      (told_once marks_of p.steps q.steps (begin flat) p.last q.last m.ending m'.ending p.ends q.ends)
+      (told_once (marks_of flat) p.steps q.steps (begin flat) p.last q.last m.ending m'.ending p.ends q.ends)
 
   pub one_run : IsOneRun flat under n
   one_run = record { longer = longer; one = one; told_longer = told_longer; meaning = meaning }

@@ -149,7 +149,7 @@ module _ (silent : TellsNothing) (p : Program) (ok : IsLowerable p) (homes : (q 
     ends = h.ends.ends;
     output_is = sym h.ends.output_is;
     turns_are = sym h.ends.turns_are;
-    marks_are = h.marks_are ∙ sym (silent (flat_of p) under n h.ends.steps marks_of (begin (flat_of p)) (λ s command. refl));
+    marks_are = h.marks_are ∙ sym (silent (flat_of p) under n h.ends.steps (marks_of (flat_of p)) (begin (flat_of p)) (λ s command. refl));
   }
 
   -- the state behind the call of main
