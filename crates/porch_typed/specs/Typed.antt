@@ -39,6 +39,10 @@ type_of_kind ULong = 7
 abbrev pub MOST_GLOBAL_LEAVES : ℕ
 MOST_GLOBAL_LEAVES = 4_194_304
 
+-- the most tokens of a function
+abbrev pub MOST_TOKENS : ℕ
+MOST_TOKENS = 1_048_576
+
 -- what the conversions of printf take
 abbrev pub shown_kind : Conversion → Kind
 shown_kind shown.Character = Int
@@ -47,6 +51,17 @@ shown_kind shown.Unsigned = UInt
 shown_kind shown.Hexadecimal = UInt
 shown_kind shown.Long = Long
 shown_kind shown.UnsignedLong = ULong
+
+-- whether an operator compares, as none of an assignment does
+abbrev pub does_compare : Operator → Bool
+does_compare (operator.Arithmetic op kind) = false
+does_compare (operator.Shift op kind) = false
+does_compare (operator.Compare c kind) = true
+does_compare (operator.ComparePointers c ty) = true
+does_compare (operator.Forward ty) = false
+does_compare (operator.Back ty) = false
+does_compare (operator.ForwardOf ty) = false
+does_compare (operator.Difference ty) = false
 
 module _ (types : List Ty) where
   abbrev pub IsWhole : ℕ → Type 0
@@ -88,6 +103,10 @@ module _ (types : List Ty) where
     back : (ty right : ℕ) → IsPointer ty → IsWhole right → Applies (operator.Back ty) ty right ty
     forward_of : (ty left : ℕ) → IsWhole left → IsPointer ty → Applies (operator.ForwardOf ty) left ty ty
     difference : (ty : ℕ) → IsPointer ty → Applies (operator.Difference ty) ty ty (type_of_kind Long)
+
+  -- what an operator gives can be stored where its left operand was: any integer in an integer, else the same type
+  abbrev pub IsStored : (result target : ℕ) → Type 0
+  IsStored result target = (IsWhole result × IsWhole target) ⊎ (result ≡ target)
 
 -- the bytes of a literal
 abbrev pub AreBytes : List ℕ → Type 0
@@ -140,8 +159,10 @@ module _ (p : Program) (f : Function) where
         (ty ≡ Some t) × (to array count : ℕ) × IsPointerTo p.types t to
         × (slice_get p.types array ≡ Some (Array to count)) × IsPlaceOf place array
     HasType (row e steps) ty = (left : ℕ) × HasType e (Some left) × (steps ≢ no_steps) × Gives steps left ty
-    HasType (all_of e es) ty = (ty ≡ Some (type_of_kind Int)) × OfType (IsScalar p.types) (HasType e) × AreTests es
-    HasType (any_of e es) ty = (ty ≡ Some (type_of_kind Int)) × OfType (IsScalar p.types) (HasType e) × AreTests es
+    HasType (all_of e es) ty =
+        (ty ≡ Some (type_of_kind Int)) × OfType (IsScalar p.types) (HasType e) × (es ≢ no_expressions) × AreTests es
+    HasType (any_of e es) ty =
+        (ty ≡ Some (type_of_kind Int)) × OfType (IsScalar p.types) (HasType e) × (es ≢ no_expressions) × AreTests es
     HasType (unary op kind e) ty =
         (ty ≡ Some (type_of_kind kind)) × IsTrue (is_operand_kind kind) × OfType (IsWhole p.types) (HasType e)
     HasType (isnt e) ty = (ty ≡ Some (type_of_kind Int)) × OfType (IsScalar p.types) (HasType e)
@@ -151,12 +172,14 @@ module _ (p : Program) (f : Function) where
         (ty ≡ Some t) × (IsScalar p.types t ⊎ IsStruct p.types t) × IsPlaceOf place t × HasType e (Some t)
     HasType (assign_by t op place e) ty =
         (ty ≡ Some t) × IsScalar p.types t × IsPlaceOf place t
-        × (right result : ℕ) × HasType e (Some right) × Applies p.types op t right result
+        × (does_compare op ≡ false) × (right result : ℕ) × HasType e (Some right)
+        × Applies p.types op t right result × IsStored p.types result t
     HasType (increment t before way place) ty = (ty ≡ Some t) × IsScalar p.types t × IsPlaceOf place t
     HasType (conversion kind e) ty = (ty ≡ Some (type_of_kind kind)) × OfType (IsWhole p.types) (HasType e)
     HasType (discard e) ty = (ty ≡ None) × (t : Option ℕ) × HasType e t
     HasType (member_of t leaf e) ty =
-        (ty ≡ Some t) × (struct : ℕ) × HasType e (Some struct) × IsMember p.types struct leaf t
+        (ty ≡ Some t) × (IsScalar p.types t ⊎ IsStruct p.types t)
+        × (struct : ℕ) × HasType e (Some struct) × IsMember p.types struct leaf t
     HasType (call g es) ty =
         (ty ≡ result_of (slice_get p.functions g)) × (g < length p.functions)
         × HaveTypes es (params_of (slice_get p.functions g))
@@ -273,7 +296,9 @@ module _ (p : Program) (f : Function) where
   IsResult (Some ty) = IsScalar p.types ty
 
   pub record IsFunction : Type 0 where
-    pub variables : All (λ ty. ty < length p.types) f.variables
+    pub variables : All (λ ty. ty < length p.pointers) f.variables
+    pub few : length f.variables ≤ f.tokens
+    pub most : f.tokens ≤ MOST_TOKENS
     pub params : f.params ≤ length f.variables
     pub scalars : All (IsScalar p.types) (take f.params f.variables)
     pub result : IsResult f.result
@@ -285,11 +310,15 @@ pub record IsMain (f : Function) : Type 0 where
   pub params : f.params ≡ 0
   pub result : f.result ≡ Some (type_of_kind Int)
 
--- A typed program.
+-- A typed program. Its own types are the first, as many as `pointers` has; those behind them are there so that each of
+-- its own types has a pointer type. Objects have types of its own, and pointers point to such.
 pub record IsTyped (p : Program) : Type 0 where
   pub types : IsTypes p.types
+  pub own : (8 ≤ length p.pointers) × (length p.pointers ≤ length p.types)
   pub pointers : (ty pointer : ℕ) → slice_get p.pointers ty ≡ Some pointer → IsPointerTo p.types pointer ty
-  pub objects : All (λ (g : GlobalVariable). g.ty < length p.types) p.globals
+  pub targets : (ty to : ℕ) → IsPointerTo p.types ty to → to < length p.pointers
+  pub derived : (ty : ℕ) → IsWhole p.types ty → ty < 8
+  pub objects : All (λ (g : GlobalVariable). g.ty < length p.pointers) p.globals
   pub fills : All (λ (g : GlobalVariable). AreFills p g.ty g.fills) p.globals
   pub small : sum_by (λ (g : GlobalVariable). leaves_of p.types g.ty) p.globals ≤ MOST_GLOBAL_LEAVES
   pub functions : All (IsFunction p) p.functions

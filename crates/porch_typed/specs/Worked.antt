@@ -31,15 +31,16 @@ next_number =
           with_statement
           (give (Some (row (read 4 (pointee (read 8 (variable 0)))) (with_step (Arithmetic Add Int) (constant Int (pos 1)) no_steps))))
           no_statements;
-      tokens = 14;
+      tokens = 15;
     }
 
--- with the type of a pointer to int
+-- with the type of a pointer to int; the types behind it are pointers to the others
 abbrev pub two_functions : Program
 two_functions =
     record {
-      types = kind_types ++ Pointer 4 ∷ [];
-      pointers = [];
+      types =
+          kind_types ++ Pointer 4 ∷ Pointer 0 ∷ Pointer 1 ∷ Pointer 2 ∷ Pointer 3 ∷ Pointer 5 ∷ Pointer 6 ∷ Pointer 7 ∷ Pointer 8 ∷ [];
+      pointers = 9 ∷ 10 ∷ 11 ∷ 12 ∷ 8 ∷ 13 ∷ 14 ∷ 15 ∷ 16 ∷ [];
       globals = [];
       functions = small_main ∷ next_number ∷ [];
       main = 0;

@@ -259,7 +259,8 @@ pub struct GlobalVariable {
 #[derive(Drop)]
 pub struct Program {
     pub types: Types,
-    /// The number of the pointer type to each type, from type 0 on.
+    /// The number of the pointer type to each of its own types, which are the first. Those behind them
+    /// are there so that each of these has one.
     pub pointers: Items<u32>,
     pub globals: Items<GlobalVariable>,
     /// In the order of their definitions.

@@ -9,6 +9,8 @@ use Rattle.porch_typed.proofs.worked.small_functions_are_typed.Goals as goal
 pub returns-clause-gives : goal.returns-clause-gives
 returns-clause-gives c = record {
   variables = All-nil _;
+  few = omega arith;
+  most = omega arith;
   params = omega arith;
   scalars = All-nil _;
   result = inl (Int, refl);
@@ -19,6 +21,8 @@ pub returns-clause-adds : goal.returns-clause-adds
 returns-clause-adds c =
     record {
       variables = All-cons (λ ty. ty < 9) 8 [] (omega arith) (All-nil _);
+      few = omega arith;
+      most = omega arith;
       params = omega arith;
       scalars = All-cons (IsScalar two_functions.types) 8 [] (inr (4, refl)) (All-nil _);
       result = inl (Int, refl);
