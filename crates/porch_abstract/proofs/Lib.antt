@@ -5,3 +5,6 @@ pub mod Ints
 pub mod RunsEnd
 pub mod Steps
 pub mod Stores
+pub mod WholeEnds
+pub mod WholeLines
+pub mod WholeRunsEnd

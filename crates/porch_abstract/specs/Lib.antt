@@ -4,4 +4,6 @@ pub mod Machine
 pub mod Run
 -- What contracts see of an abstract machine, and what a step of it answers.
 pub mod Held
+-- the same for all commands of the flat text; no program runs these yet
+pub mod whole
 pub mod inside

@@ -9,6 +9,7 @@ pub mod laws;
 mod machine;
 mod phase;
 mod run;
+pub mod whole;
 
 pub use machine::Abstract;
 pub use phase::AStep;
