@@ -1,6 +1,6 @@
 -- The jumps of a valid program, found by the lines that its commands stand in.
-use Rattle.std.proofs.Common.{◌≡◌, ◌<◌, ◌≤◌, inl, inr, ℕ, zero, suc, ◌+◌, List, [], ◌∷◌, ◌++◌, length, get_or, refl, sym, ap, ◌∙◌, subst, arith, Option, Some, None, Bool, true, false}
-use Rattle.std.specs.Prelude.{slice_get, nat_lt, ◌-◌, if◌then◌else◌, ◌&&◌, ◌||◌, ◌⊎◌, drop}
+use Rattle.std.proofs.Common.{◌≡◌, ◌<◌, inl, inr, ℕ, zero, suc, ◌+◌, List, [], ◌∷◌, ◌++◌, length, get_or, refl, ◌∙◌, subst, arith, Option, Some, None, Bool, true, false}
+use Rattle.std.specs.Prelude.{slice_get, nat_lt, ◌-◌, ◌&&◌, ◌||◌, ◌⊎◌, drop}
 use Rattle.std.specs.List.{position_or_len}
 use Rattle.std.proofs.lemmas.Option.{slice_get-get_or, cond_some}
 use Rattle.std.proofs.lemmas.List.Sums.{passes_at_first}
@@ -14,8 +14,8 @@ use Rattle.porch_flat.specs.declared.whole.Sort.{Sort}
 use Rattle.porch_flat.specs.declared.whole.FlatRule.TheVariants as rule
 use Rattle.porch_flat.specs.whole.Form as form
 use Rattle.porch_flat.specs.whole.Form.{Form, form_of, label_of, jump_of, is_turn}
-use Rattle.porch_flat.specs.whole.Lines.{Line, command_line, function_line, begin_line, end_line, var_lines, command_lines, function_lines, type_lines, global_lines, lines_of, line_at}
-use Rattle.porch_flat.specs.whole.Places.{is_number, place_of_label, commands_of}
+use Rattle.porch_flat.specs.whole.Lines.{command_line, function_line, begin_line, var_lines, command_lines, function_lines, type_lines, global_lines, lines_of, line_at}
+use Rattle.porch_flat.specs.whole.Places.{is_number, place_of_label}
 use Rattle.porch_flat.specs.whole.Rewritten.{passes}
 use Rattle.porch_flat.specs.whole.Rules.{IsValid, may_lead, leads_well, stands_once}
 

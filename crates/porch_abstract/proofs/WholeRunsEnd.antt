@@ -1,9 +1,8 @@
 -- Each run of a valid program comes to an end: by the turns that are left, then by the frames, and then by the commands that
 -- are left of the innermost one's function. A call counts a turn, and a jump backward leads to a label and a TURN.
-use Rattle.std.proofs.Common.{◌≡◌, ◌<◌, ◌≤◌, inl, inr, ℕ, zero, suc, ◌+◌, ℤ, pos, List, [], ◌∷◌, length, refl, sym, ap, ◌∙◌, subst, arith, Option, Some, None, Result, Ok, Err, Bool, true, false}
+use Rattle.std.proofs.Common.{◌≡◌, ◌<◌, ◌≤◌, inl, inr, ℕ, zero, suc, ◌+◌, ℤ, pos, List, [], ◌∷◌, length, refl, subst, arith, Option, Some, None, Result, Ok, Err, Bool, true, false}
 use Rattle.std.specs.Prelude.{slice_get, if◌then◌else◌, nat_le, unwrap_or}
 use Rattle.std.specs.Ordering.{int_eq}
-use Rattle.std.proofs.lemmas.Option.{slice_get_within}
 use Rattle.std.proofs.lemmas.Bool.Decides.{nat_tests}
 use Rattle.porch_types.specs.declared.shapes.Ty.{Ty}
 use Rattle.porch_types.specs.declared.shapes.Ty.TheVariants.{Whole, Pointer, Array, Struct}
@@ -24,7 +23,7 @@ use Rattle.porch_flat.specs.whole.Form.{Form, form_of, jump_of}
 use Rattle.porch_flat.specs.whole.Places.{CHAR, commands_of, place_of_label, main_of, pointed, type_at}
 use Rattle.porch_flat.specs.whole.Rules.{IsValid, leads_well}
 use Rattle.porch_abstract.specs.Machine.{State, Frame, Phase, before, running, over, Next, Goes, Ends, Meets, with_phase, with_store, turned, put, determined, counted, resulted, received, returned}
-use Rattle.porch_abstract.specs.whole.Machine.{operand_of, variable_of, shown, text_of, length_of, int_of, if_ok, all_determined, pointers_compare, compares, kind_in, var_type, pointee_in, forward, called, onward, at_label, subobject, compared, type_compared, argument_values, gives, does, after, next}
+use Rattle.porch_abstract.specs.whole.Machine.{operand_of, variable_of, shown, text_of, length_of, int_of, if_ok, all_determined, pointers_compare, compares, kind_in, var_type, pointee_in, forward, called, onward, at_label, subobject, compared, type_compared, argument_values, gives, does, next}
 use Rattle.porch_abstract.specs.whole.Run.{is_paused, counts_turn, counts, run_to, then_on, RunsEnd}
 use Rattle.porch_abstract.proofs.WholeLines.{Stands, Leads, label_at, leads, leads_in}
 
@@ -177,7 +176,7 @@ module _ (flat : Flat) (under : Environment) (n : ℕ) where
             compares_on (type_at flat (type_compared flat under (frame_at place) callers a b)) c (operand_of flat (type_compared flat under (frame_at place) callers a b) a here)
             (operand_of flat (type_compared flat under (frame_at place) callers a b) b here) _ (λ b. goes_on (put v (int_of b) here) refl)
         led_on (form.subobject v within leaf) h g = if_done (subobject flat under (frame_at place) callers within leaf here) _ (λ x. goes_on (put v x here) refl)
-        led_on (form.step way v p o) h g = 
+        led_on (form.step way v p o) h g =
             if_counted (operand_of flat None o here) _ (λ z.
             if_done (pointers.step flat.types (pointee_in flat (frame_at place) p) here.store (variable_of p here) (forward way z)) _ (λ x. goes_on (put v x here) refl))
         led_on (form.difference v p q) h g =
@@ -188,7 +187,7 @@ module _ (flat : Flat) (under : Environment) (n : ℕ) where
         led_on (form.copy p q) h g =
             if_done (pointers.copy (leaves_of flat.types (pointee_in flat (frame_at place) p)) here.store (variable_of p here) (variable_of q here)) _ (λ store. goes_on (with_store here store) refl)
         led_on (form.kill v) h g = goes_on (put v indeterminate here) refl
-        led_on (form.allocate zeros v o) h g = 
+        led_on (form.allocate zeros v o) h g =
             if_counted (operand_of flat None o here) _ (λ z.
             if_done (pointers.allocate flat.types (pointee_in flat (frame_at place) v) zeros z here.store) _
             (λ made. goes_on (put v made.address (with_store here made.store)) refl))

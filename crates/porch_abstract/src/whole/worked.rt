@@ -1,1 +1,28 @@
 //! Programs that are worked out, which the check computes.
+
+ghost use Rattle.porch_abstract.specs.whole.Worked.{CallsReturn, EndsAreForgotten, BlocksEnd, TextsAreShown, MarksAreTold};
+
+/// A call's value comes back, each call counts a turn, and a run stops before one too many.
+pub fn calls_return()
+    ensures { CallsReturn }
+{}
+
+/// An end that is shared lasts up to the next CHECKPOINT, and is a fault where it is used behind it.
+pub fn ends_are_forgotten()
+    ensures { EndsAreForgotten }
+{}
+
+/// What is allocated is there until it is freed, which only a pointer to its begin does.
+pub fn blocks_end()
+    ensures { BlocksEnd }
+{}
+
+/// A text is shown up to its byte 0, which has to come; the commands for saving do nothing.
+pub fn texts_are_shown()
+    ensures { TextsAreShown }
+{}
+
+/// A run tells its checkpoints, its allocations, and the frees that end one.
+pub fn marks_are_told()
+    ensures { MarksAreTold }
+{}
