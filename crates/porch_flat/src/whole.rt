@@ -1,10 +1,12 @@
 //! The whole flat text as data: every command, the rules that a program may break, and the programs that
 //! break none. The program that runs uses `flat` as yet.
 
+mod calls;
 mod form;
 mod valid;
 
 use crate::flat::{GlobalObject, Operand};
+pub use calls::reaching;
 use porch_types::Types;
 use sqlite_items::Items;
 pub use valid::{Plain, Valid, ValidFault};
