@@ -14,8 +14,10 @@ use std::marker::Model;
 /// of the set. Its time is linear in the commands.
 pub fn reaching(alloc: Global, flat: &Flat) -> Result<Vec<bool>, AllocError>
     ensures length { IfOk result (λ v. length v.items ≡ length flat.now.functions) }
-    ensures least { IfOk result (λ v. IsLeastClosed flat.now (λ f. slice_index_or v.items f false)) }
-    ensures same { IfOk result (λ v. (f : ℕ) → slice_index_or v.items f false ≡ reaches flat.now f) }
+    ensures least { IfOk result (λ v. IsLeastClosed flat.now
+        (λ f. slice_index_or v.items f false)) }
+    ensures same { IfOk result (λ v. (f : ℕ)
+        → slice_index_or v.items f false ≡ reaches flat.now f) }
 {
     let functions = flat.functions.as_slice();
     let callers = Callers::new(alloc, functions)?;
@@ -85,7 +87,8 @@ impl Search {
 
     // Marks the callers of the function that was reached so many steps ago.
     fn go_on(&mut self, callers: &Callers, step: usize) -> Result<(), AllocError>
-        ensures { OnOk result (self.new ≡ gone_on callers.now (slice_get self.old.order step) self.old) }
+        ensures { OnOk result
+            (self.new ≡ gone_on callers.now (slice_get self.old.order step) self.old) }
     {
         if let Some(g) = self.order.get(step).copied() {
             self.mark_all(callers.of(g))?;
