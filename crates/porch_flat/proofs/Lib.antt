@@ -1,2 +1,5 @@
 pub mod Placed
 pub mod Rules
+pub mod CallGraph
+pub mod Reached
+pub mod Marks
