@@ -1,8 +1,7 @@
 //! What no clause says: that calls succeed with ample memory, worked programs and printed bytes, and failing calls in
 //! mid-stream.
 
-use crate::status::{Status, number_of_status};
-use crate::top::porch;
+use porch_cli::{Status, close, number_of_status, porch};
 use porch_edge::{Failed, MemSink, MemSource, Sink, Source};
 use porch_syntax::{Refusal, Rule};
 use porch_values::Act;
@@ -380,17 +379,17 @@ fn each_act_and_rule_has_its_name(rt: HostRuntime) -> Result<(), Fail> {
         act: Act::Relation,
         turns: 18_446_744_073_709_551_615,
     };
-    crate::top::close(b"", trap, &mut err);
+    close(b"", trap, &mut err);
     let refused = Status::Refused(Refusal {
         at: 6,
         rule: Rule::WideConstant,
     });
-    crate::top::close(b"ab\ncd\nef", refused, &mut err);
+    close(b"ab\ncd\nef", refused, &mut err);
     let full = Status::StackFull {
         asked: 4112,
         left: 4096,
     };
-    crate::top::close(b"", full, &mut err);
+    close(b"", full, &mut err);
     assert_eq!(rt;
         err.held(),
         b"trap Relation 18446744073709551615\nrefused WideConstant 3 1\nstack full 4112 4096\n".as_slice()
