@@ -182,7 +182,7 @@ def all_of(crate, path):
 
 
 def exported(crate):
-    """The public types, traits and functions of a crate. Of a program they are those that `main` uses."""
+    """The public types, traits and functions of a crate. Of a program they are those of its own that `main` uses."""
     root = root_of(crate)
     if root.module == "main":
         items = [rust_item(crate, path) for path in root.uses.values() if path.startswith("crate::")]

@@ -6,88 +6,120 @@ use porch_heap::{Block, Heap, HeapFull, NotABlock};
 use std::process::Abort;
 use std::test::Fail;
 
+/// What is asked of a heap, and the answer.
+enum Turn {
+    /// A type and a count, bytes and an alignment, and the place.
+    Takes(u32, u32, u64, u64, u64),
+    /// So many chars at an alignment, which find no place; the longest free run, and how many blocks are live.
+    FindsNone(u32, u64, u64, u32),
+    GivesBack(u64, Result<(), NotABlock>),
+    Holds(u64, Option<Block>),
+    Counts(usize),
+}
+
+const FIRST: Block = Block {
+    at: 1000,
+    ty: 7,
+    count: 2,
+    bytes: 8,
+};
+
+static BLOCKS_ENDING_BETWEEN: [Turn; 22] = [
+    Turn::Takes(7, 2, 8, 8, 1000),
+    Turn::Takes(3, 1, 2, 2, 1010),
+    Turn::Takes(0, 1, 1, 1, 1013),
+    Turn::Takes(7, 1, 4, 4, 1016),
+    Turn::Takes(7, 1, 8, 8, 1024),
+    Turn::Holds(999, None),
+    Turn::Holds(1000, Some(FIRST)),
+    Turn::Holds(1008, Some(FIRST)),
+    Turn::Holds(1009, None),
+    Turn::GivesBack(1001, Err(NotABlock)),
+    Turn::GivesBack(1010, Ok(())),
+    Turn::GivesBack(1010, Err(NotABlock)),
+    Turn::Takes(0, 3, 3, 1, 1009),
+    Turn::GivesBack(1000, Ok(())),
+    Turn::Takes(0, 9, 9, 1, 1033),
+    Turn::Takes(0, 7, 7, 8, 1000),
+    Turn::Counts(6),
+    Turn::FindsNone(22, 1, 21, 6),
+    Turn::FindsNone(20, 2, 21, 6),
+    Turn::Takes(0, 20, 20, 1, 1043),
+    Turn::Takes(0, 1, 1, 1, 1021),
+    Turn::FindsNone(1, 1, 1, 8),
+];
+
+static NO_BYTES: [Turn; 1] = [Turn::FindsNone(1, 1, 0, 0)];
+
+static AN_ODD_BASE: [Turn; 4] = [
+    Turn::FindsNone(9, 8, 16, 0),
+    Turn::Takes(0, 8, 8, 8, 24),
+    Turn::FindsNone(7, 1, 7, 1),
+    Turn::Takes(0, 6, 6, 1, 17),
+];
+
+fn aligned(align: u64) -> u64
+    ensures { IsAlignment result }
+{
+    match align {
+        2 => 2,
+        4 => 4,
+        8 => 8,
+        _ => 1,
+    }
+}
+
+fn take_turn(rt: &impl Abort, heap: &mut Heap, turn: &Turn) {
+    match turn {
+        Turn::Takes(ty, count, bytes, align, at) => {
+            assert!(rt; *count > 0 && *bytes > 0 && *bytes < 1000);
+            assert_eq!(rt; heap.take(*ty, *count, *bytes, aligned(*align)), Ok(*at));
+        }
+        Turn::FindsNone(count, align, largest, blocks) => {
+            assert!(rt; *count > 0);
+            let full = HeapFull {
+                asked: u64::from(*count),
+                largest: *largest,
+                blocks: *blocks,
+            };
+            assert_eq!(rt;
+                heap.take(0, *count, full.asked, aligned(*align)),
+                Err(full)
+            );
+        }
+        Turn::GivesBack(at, answer) => assert_eq!(rt; heap.give_back(*at), *answer),
+        Turn::Holds(at, answer) => assert_eq!(rt; heap.block_at(*at), *answer),
+        Turn::Counts(count) => {
+            assert_eq!(rt; heap.len(), *count);
+            assert_eq!(rt; heap.blocks().count(), *count);
+        }
+    }
+}
+
+fn take_turns(rt: &impl Abort, heap: &mut Heap, turns: &[Turn]) {
+    for turn in turns {
+        take_turn(rt, heap, turn);
+    }
+}
+
 #[test]
 fn places_with_blocks_ending_between(rt: HostRuntime) -> Result<(), Fail> {
     let mut heap = Heap::new(rt.alloc(), 1000, 64)?;
-    assert_eq!(rt; heap.take(7, 2, 8, 8), Ok(1000));
-    assert_eq!(rt; heap.take(3, 1, 2, 2), Ok(1010));
-    assert_eq!(rt; heap.take(0, 1, 1, 1), Ok(1013));
-    assert_eq!(rt; heap.take(7, 1, 4, 4), Ok(1016));
-    assert_eq!(rt; heap.take(7, 1, 8, 8), Ok(1024));
-    assert_eq!(rt; heap.block_at(999), None);
-    let first = Block {
-        at: 1000,
-        ty: 7,
-        count: 2,
-        bytes: 8,
-    };
-    assert_eq!(rt; heap.block_at(1000), Some(first));
-    assert_eq!(rt; heap.block_at(1008), Some(first));
-    assert_eq!(rt; heap.block_at(1009), None);
-    assert_eq!(rt; heap.give_back(1001), Err(NotABlock));
-    assert_eq!(rt; heap.give_back(1010), Ok(()));
-    assert_eq!(rt; heap.give_back(1010), Err(NotABlock));
-    assert_eq!(rt; heap.take(0, 3, 3, 1), Ok(1009));
-    assert_eq!(rt; heap.give_back(1000), Ok(()));
-    assert_eq!(rt; heap.take(0, 9, 9, 1), Ok(1033));
-    assert_eq!(rt; heap.take(0, 7, 7, 8), Ok(1000));
-    assert_eq!(rt; heap.len(), 6);
-    assert_eq!(rt; heap.blocks().count(), 6);
-    let full = HeapFull {
-        asked: 22,
-        largest: 21,
-        blocks: 6,
-    };
-    assert_eq!(rt; heap.take(0, 22, 22, 1), Err(full));
-    assert_eq!(rt;
-        heap.take(0, 20, 20, 2),
-        Err(HeapFull {
-            asked: 20,
-            largest: 21,
-            blocks: 6
-        })
-    );
-    assert_eq!(rt; heap.take(0, 20, 20, 1), Ok(1043));
-    assert_eq!(rt; heap.take(0, 1, 1, 1), Ok(1021));
-    let last = HeapFull {
-        asked: 1,
-        largest: 1,
-        blocks: 8,
-    };
-    assert_eq!(rt; heap.take(0, 1, 1, 1), Err(last));
+    take_turns(&rt, &mut heap, &BLOCKS_ENDING_BETWEEN);
     Ok(())
 }
 
 #[test]
-fn edges_of_a_heap(rt: HostRuntime) -> Result<(), Fail> {
-    let mut none = Heap::new(rt.alloc(), 16, 0)?;
-    assert_eq!(rt;
-        none.take(0, 1, 1, 1),
-        Err(HeapFull {
-            asked: 1,
-            largest: 0,
-            blocks: 0
-        })
-    );
-    let mut odd = Heap::new(rt.alloc(), 17, 16)?;
-    assert_eq!(rt;
-        odd.take(0, 9, 9, 8),
-        Err(HeapFull {
-            asked: 9,
-            largest: 16,
-            blocks: 0
-        })
-    );
-    assert_eq!(rt; odd.take(0, 8, 8, 8), Ok(24));
-    assert_eq!(rt;
-        odd.take(0, 7, 7, 1),
-        Err(HeapFull {
-            asked: 7,
-            largest: 7,
-            blocks: 1
-        })
-    );
-    assert_eq!(rt; odd.take(0, 6, 6, 1), Ok(17));
+fn a_heap_of_no_bytes(rt: HostRuntime) -> Result<(), Fail> {
+    let mut heap = Heap::new(rt.alloc(), 16, 0)?;
+    take_turns(&rt, &mut heap, &NO_BYTES);
+    Ok(())
+}
+
+#[test]
+fn an_odd_base(rt: HostRuntime) -> Result<(), Fail> {
+    let mut heap = Heap::new(rt.alloc(), 17, 16)?;
+    take_turns(&rt, &mut heap, &AN_ODD_BASE);
     Ok(())
 }
 

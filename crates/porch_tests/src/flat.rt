@@ -30,50 +30,66 @@ fn program(alloc: Global, commands: &[Command], copies: usize) -> Result<Flat, F
     })
 }
 
-// Whether both types take a program, or neither does.
-fn are_taken(alloc: Global, commands: &[Command], copies: usize) -> Result<Option<bool>, Fail> {
-    let valid = Valid::new(alloc, program(alloc, commands, copies)?);
-    let plain = Plain::new(alloc, program(alloc, commands, copies)?);
-    match (valid, plain) {
-        (Ok(_), Ok(_)) => Ok(Some(true)),
-        (Err(ValidFault::NotValid), Err(ValidFault::NotValid)) => Ok(Some(false)),
-        _ => Ok(None),
+fn is_valid(alloc: Global, commands: &[Command], copies: usize) -> Result<Option<bool>, Fail> {
+    match Valid::new(alloc, program(alloc, commands, copies)?) {
+        Ok(_) => Ok(Some(true)),
+        Err(ValidFault::NotValid) => Ok(Some(false)),
+        Err(ValidFault::NoMemory) => Ok(None),
     }
+}
+
+fn is_plain(alloc: Global, commands: &[Command], copies: usize) -> Result<Option<bool>, Fail> {
+    match Plain::new(alloc, program(alloc, commands, copies)?) {
+        Ok(_) => Ok(Some(true)),
+        Err(ValidFault::NotValid) => Ok(Some(false)),
+        Err(ValidFault::NoMemory) => Ok(None),
+    }
+}
+
+static LOOP: [Command; 4] = [
+    Command::Label(0),
+    Command::Turn,
+    Command::Move(1, Operand::Constant(2_147_483_647)),
+    Command::If(Operand::Var(1), 0),
+];
+
+/// The commands of `main`, how often it stands there, and whether that is taken.
+type Row = (&'static [Command], usize, bool);
+
+static ROWS: [Row; 7] = [
+    (&[], 1, true),
+    (&[], 0, false),
+    (&[Command::Jump(0)], 1, false),
+    (&[Command::Label(0), Command::Label(0)], 1, false),
+    (&[Command::Label(0), Command::Jump(0)], 1, false),
+    (&[Command::Move(2, Operand::Var(0))], 1, false),
+    (
+        &[Command::Char(0, Operand::Constant(2_147_483_648))],
+        1,
+        false,
+    ),
+];
+
+// Both types take a program, or neither does.
+fn expect_taken(
+    rt: &impl Abort,
+    alloc: Global,
+    commands: &[Command],
+    copies: usize,
+    want: bool,
+) -> Result<(), Fail> {
+    assert_eq!(rt; is_valid(alloc, commands, copies)?, Some(want));
+    assert_eq!(rt; is_plain(alloc, commands, copies)?, Some(want));
+    Ok(())
 }
 
 #[test]
 fn only_programs_that_break_no_rule_are_taken(rt: HostRuntime) -> Result<(), Fail> {
     let alloc = rt.alloc();
-    let loop_back = [
-        Command::Label(0),
-        Command::Turn,
-        Command::Move(1, Operand::Constant(2_147_483_647)),
-        Command::If(Operand::Var(1), 0),
-    ];
-    assert_eq!(rt; are_taken(alloc, &loop_back, 1)?, Some(true));
-    assert_eq!(rt; are_taken(alloc, &[], 1)?, Some(true));
-    assert_eq!(rt; are_taken(alloc, &loop_back, 2)?, Some(false));
-    assert_eq!(rt; are_taken(alloc, &[], 0)?, Some(false));
-    assert_eq!(rt; are_taken(alloc, &[Command::Jump(0)], 1)?, Some(false));
-    assert_eq!(rt;
-        are_taken(alloc, &[Command::Label(0), Command::Label(0)], 1)?,
-        Some(false)
-    );
-    assert_eq!(rt;
-        are_taken(alloc, &[Command::Label(0), Command::Jump(0)], 1)?,
-        Some(false)
-    );
-    assert_eq!(rt;
-        are_taken(alloc, &[Command::Move(2, Operand::Var(0))], 1)?,
-        Some(false)
-    );
-    assert_eq!(rt;
-        are_taken(
-            alloc,
-            &[Command::Char(0, Operand::Constant(2_147_483_648))],
-            1
-        )?,
-        Some(false)
-    );
+    expect_taken(&rt, alloc, &LOOP, 1, true)?;
+    expect_taken(&rt, alloc, &LOOP, 2, false)?;
+    for (commands, copies, want) in &ROWS {
+        expect_taken(&rt, alloc, commands, *copies, *want)?;
+    }
     Ok(())
 }

@@ -16,6 +16,7 @@ use porch_types::Types;
 use porch_values::{Act, Widths};
 use sqlite_items::Items;
 use std::alloc::{AllocError, Global};
+use std::process::Abort;
 use std::test::Fail;
 
 /// Where two machines came to.
@@ -105,20 +106,18 @@ fn walk_both(
 }
 
 /// Where the two machines come to with a program, and what they show.
-fn walked(alloc: Global, program: &Valid) -> Result<(Walk, Vec<u8>), AllocError> {
+fn walked(alloc: Global, program: &Valid, shown: &mut Vec<u8>) -> Result<Walk, AllocError> {
     let widths = Widths {
         narrow: false,
         wide: true,
     };
     let mut objects = Abstract::new(alloc, program, widths)?;
     let mut bytes = Machine::prepare(alloc, program, &layout_of_bytes(), 4096, 16)?;
-    let mut shown = Vec::new(alloc);
-    let end = walk_both(program, &mut objects, &mut bytes, &mut shown)?;
-    Ok((end, shown))
+    walk_both(program, &mut objects, &mut bytes, shown)
 }
 
 /// Programs, what they show, and where they come to.
-const PROGRAMS: [(&str, &[u8], Walk); 10] = [
+static PROGRAMS: [(&str, &[u8], Walk); 10] = [
     (
         "int main(void){putchar('A');return 0;}",
         b"A",
@@ -167,89 +166,115 @@ const PROGRAMS: [(&str, &[u8], Walk); 10] = [
     ),
 ];
 
+/// What a text shows on both machines, and where they come to. Nothing where it has no flat program.
+fn walk_of(alloc: Global, text: &str, shown: &mut Vec<u8>) -> Result<Option<Walk>, AllocError> {
+    match valid_of(alloc, text.as_bytes()) {
+        Some(program) => Ok(Some(walked(alloc, &program, shown)?)),
+        None => Ok(None),
+    }
+}
+
+fn expect_walk(
+    rt: &impl Abort,
+    alloc: Global,
+    text: &str,
+    out: &[u8],
+    end: Walk,
+) -> Result<(), AllocError> {
+    let mut shown = Vec::new(alloc);
+    let came = walk_of(alloc, text, &mut shown)?;
+    assert_eq!(rt; came, Some(end), "{text}");
+    assert_eq!(rt; shown.as_slice(), out, "{text}");
+    Ok(())
+}
+
 #[test]
 fn machines_go_side_by_side(rt: HostRuntime) -> Result<(), Fail> {
-    let alloc = rt.alloc();
-    for (text, out, end) in PROGRAMS {
-        match valid_of(alloc, text.as_bytes()) {
-            Some(program) => {
-                let (came, shown) = walked(alloc, &program)?;
-                assert_eq!(rt; came, end, "{text}");
-                assert_eq!(rt; shown.as_slice(), out, "{text}");
-            }
-            None => assert!(rt; false, "no program: {text}"),
-        }
+    for (text, out, end) in &PROGRAMS {
+        expect_walk(&rt, rt.alloc(), text, out, *end)?;
     }
     Ok(())
 }
 
-/// A program of `main` with so many variables, all ints, which returns 7.
-fn wide(alloc: Global, count: usize) -> Result<Flat, AllocError> {
-    let mut vars = Vec::new(alloc);
+/// So many variables, all ints.
+fn ints(alloc: Global, count: usize) -> Result<Items<u32>, AllocError> {
+    let mut vars = Items::new(alloc);
     for _ in 0..count {
-        vars.push(4u32)?;
+        vars.push(4)?;
     }
-    let mut commands = Vec::new(alloc);
-    commands.push(Command::Return(Some(Operand::Constant(7))))?;
-    let main = Function {
-        name: Items::from_slice(alloc, b"main")?,
+    Ok(vars)
+}
+
+/// `main` with these variables, which returns 7.
+fn main_with(alloc: Global, vars: Items<u32>) -> Result<Function, AllocError> {
+    let name = Items::from_slice(alloc, b"main")?;
+    let commands = [Command::Return(Some(Operand::Constant(7)))];
+    Ok(Function {
+        name,
         result: Some(4),
         params: 0,
-        vars: Items::from_vec(vars),
-        commands: Items::from_vec(commands),
-    };
-    let mut functions = Vec::new(alloc);
+        vars,
+        commands: Items::from_slice(alloc, &commands)?,
+    })
+}
+
+/// A program of one function.
+fn program_of(alloc: Global, main: Function) -> Result<Flat, AllocError> {
+    let mut functions = Items::new(alloc);
     functions.push(main)?;
     Ok(Flat {
         types: Types::new(alloc)?,
         globals: Items::new(alloc),
-        functions: Items::from_vec(functions),
+        functions,
     })
+}
+
+/// What the first step of a program answers under a stack of so many bytes.
+fn first_step(alloc: Global, program: &Valid, stack: u64) -> Result<Option<Step>, AllocError> {
+    if stack < 4096 || stack > 16_777_216 {
+        return Ok(None);
+    }
+    let mut machine = Machine::prepare(alloc, program, &layout_of_bytes(), stack, 16)?;
+    Ok(Some(machine.step(program)))
 }
 
 /// What the call of `main` with so many variables answers under a stack of so many bytes.
 fn called(alloc: Global, count: usize, stack: u64) -> Result<Option<Step>, AllocError> {
-    if stack < 4096 || stack > 16_777_216 {
-        return Ok(None);
-    }
-    match Valid::new(alloc, wide(alloc, count)?) {
-        Ok(program) => {
-            let mut machine = Machine::prepare(alloc, &program, &layout_of_bytes(), stack, 16)?;
-            Ok(Some(machine.step(&program)))
-        }
+    let main = main_with(alloc, ints(alloc, count)?)?;
+    let flat = program_of(alloc, main)?;
+    match Valid::new(alloc, flat) {
+        Ok(program) => first_step(alloc, &program, stack),
         Err(_) => Ok(None),
     }
 }
 
+// 512 ints take 4092 bytes and one more, which is rounded up to 4096.
+static FRAMES: [(usize, u64, Step); 4] = [
+    (512, 4096, Step::Went),
+    (
+        513,
+        4096,
+        Step::StackFull {
+            asked: 4112,
+            left: 4096,
+        },
+    ),
+    (
+        513,
+        4111,
+        Step::StackFull {
+            asked: 4112,
+            left: 4111,
+        },
+    ),
+    (513, 4112, Step::Went),
+];
+
 #[test]
 fn a_frame_may_not_fit(rt: HostRuntime) -> Result<(), Fail> {
-    // 512 ints take 4092 bytes and one more, which is rounded up to 4096.
-    let rows = [
-        (512, 4096, Step::Went),
-        (
-            513,
-            4096,
-            Step::StackFull {
-                asked: 4112,
-                left: 4096,
-            },
-        ),
-        (
-            513,
-            4111,
-            Step::StackFull {
-                asked: 4112,
-                left: 4111,
-            },
-        ),
-        (513, 4112, Step::Went),
-    ];
-    for (count, stack, answer) in rows {
-        assert_eq!(rt;
-            called(rt.alloc(), count, stack)?,
-            Some(answer),
-            "{count} ints in {stack} bytes"
-        );
+    for (count, stack, answer) in &FRAMES {
+        let got = called(rt.alloc(), *count, *stack)?;
+        assert_eq!(rt; got, Some(*answer), "{count} ints in {stack} bytes");
     }
     Ok(())
 }

@@ -1,12 +1,12 @@
 //! What no clause says: that calls succeed with ample memory, worked programs and printed bytes, and failing calls in
 //! mid-stream.
 
-use crate::status::{Status, number_of_status};
-use crate::top::porch;
+use porch_cli::{Status, close, number_of_status, porch};
 use porch_edge::{Failed, MemSink, MemSource, Sink, Source};
 use porch_syntax::{Refusal, Rule};
 use porch_values::Act;
 use std::alloc::{AllocError, Global};
+use std::process::Abort;
 use std::test::Fail;
 
 /// `int i=0;while(i<3){putchar('0'+i);i=i+1;}return 0;` in `main`.
@@ -48,6 +48,17 @@ fn answer(
     Ok(Called { status, out, err })
 }
 
+/// The answer of `exec` over memory that fails nowhere.
+fn answer_of_exec(alloc: Global, text: &[u8]) -> Result<Called, AllocError> {
+    answer(alloc, &["exec"], text, &[], &[], &[])
+}
+
+/// What the two sinks got.
+fn expect_bytes(rt: &impl Abort, got: &Called, out: &str, err: &str, what: &str) {
+    assert_eq!(rt; got.out.held(), out.as_bytes(), "out of {what}");
+    assert_eq!(rt; got.err.held(), err.as_bytes(), "err of {what}");
+}
+
 /// Words, a program, what it shows, the closing line and the number of the status.
 type Row = (
     &'static [&'static str],
@@ -57,7 +68,7 @@ type Row = (
     u8,
 );
 
-const PROGRAMS: [Row; 12] = [
+static PROGRAMS: [Row; 12] = [
     (
         &["exec"],
         "int main(void){putchar('A');return 0;}",
@@ -128,52 +139,47 @@ const PROGRAMS: [Row; 12] = [
 
 #[test]
 fn programs_run(rt: HostRuntime) -> Result<(), Fail> {
-    for (words, text, out, err, number) in PROGRAMS {
+    for (words, text, out, err, number) in &PROGRAMS {
         let got = answer(rt.alloc(), words, text.as_bytes(), &[], &[], &[])?;
-        assert_eq!(rt; got.out.held(), out.as_bytes(), "out of {text}");
-        assert_eq!(rt; got.err.held(), err.as_bytes(), "err of {text}");
-        assert_eq!(rt; number_of_status(got.status), number, "status of {text}");
+        expect_bytes(&rt, &got, out, err, text);
+        assert_eq!(rt; number_of_status(got.status), *number, "status of {text}");
     }
     Ok(())
 }
 
+static REFUSED: [&str; 20] = [
+    "",
+    "\0",
+    "int main(void){return 0;}\0",
+    "int main(void){return 2147483648;}",
+    "int main(void){return 01;}",
+    "int main(void){return 1a;}",
+    "int main(void){return ''';}",
+    "int main(void){return '\\n';}",
+    "int main(void){x=1;int x;return 0;}",
+    "int main(void){int y=x;int x;return 0;}",
+    "int main(void){int x;int x;return 0;}",
+    "int main(void){int while;return 0;}",
+    "int main(void){int auto;return 0;}",
+    "int main(void){int putchar;return 0;}",
+    "int main(void){return 0;} /* ",
+    "int main(void){return 1<2<3;}",
+    "int main(void){return 0}",
+    "int main(){return 0;}",
+    "int main(void){return 0;}}",
+    "intmain(void){return 0;}",
+];
+
 #[test]
 fn other_texts_are_refused(rt: HostRuntime) -> Result<(), Fail> {
-    let rows: [&str; 20] = [
-        "",
-        "\0",
-        "int main(void){return 0;}\0",
-        "int main(void){return 2147483648;}",
-        "int main(void){return 01;}",
-        "int main(void){return 1a;}",
-        "int main(void){return ''';}",
-        "int main(void){return '\\n';}",
-        "int main(void){x=1;int x;return 0;}",
-        "int main(void){int y=x;int x;return 0;}",
-        "int main(void){int x;int x;return 0;}",
-        "int main(void){int while;return 0;}",
-        "int main(void){int auto;return 0;}",
-        "int main(void){int putchar;return 0;}",
-        "int main(void){return 0;} /* ",
-        "int main(void){return 1<2<3;}",
-        "int main(void){return 0}",
-        "int main(){return 0;}",
-        "int main(void){return 0;}}",
-        "intmain(void){return 0;}",
-    ];
-    for text in rows {
-        let got = answer(rt.alloc(), &["exec"], text.as_bytes(), &[], &[], &[])?;
-        let refusal = Refusal {
-            at: 0,
-            rule: Rule::Unbuilt,
-        };
+    let refusal = Refusal {
+        at: 0,
+        rule: Rule::Unbuilt,
+    };
+    for text in &REFUSED {
+        let got = answer_of_exec(rt.alloc(), text.as_bytes())?;
+        expect_bytes(&rt, &got, "", "refused Unbuilt 1 1\n", text);
         assert_eq!(rt; got.status, Status::Refused(refusal), "{text}");
-        assert_eq!(rt;
-            got.err.held(),
-            b"refused Unbuilt 1 1\n".as_slice(),
-            "{text}"
-        );
-        assert_eq!(rt; got.out.held(), b"".as_slice(), "{text}");
     }
     Ok(())
 }
@@ -201,100 +207,116 @@ fn padded(alloc: Global, length: usize) -> Result<Vec<u8>, AllocError> {
     Ok(text)
 }
 
+fn expect_line(rt: &impl Abort, alloc: Global, text: &[u8], err: &str) -> Result<(), AllocError> {
+    let got = answer_of_exec(alloc, text)?;
+    expect_bytes(rt, &got, "", err, "a long text");
+    Ok(())
+}
+
+fn expect_nested(
+    rt: &impl Abort,
+    alloc: Global,
+    depth: usize,
+    err: &str,
+) -> Result<(), AllocError> {
+    let text = nested(alloc, depth)?;
+    expect_line(rt, alloc, text.as_slice(), err)
+}
+
+fn expect_padded(
+    rt: &impl Abort,
+    alloc: Global,
+    length: usize,
+    err: &str,
+) -> Result<(), AllocError> {
+    let text = padded(alloc, length)?;
+    expect_line(rt, alloc, text.as_slice(), err)
+}
+
 #[test]
 fn limits_hold(rt: HostRuntime) -> Result<(), Fail> {
     let alloc = rt.alloc();
-    let rows = [
-        (nested(alloc, 198)?, "done 1 1\n"),
-        (nested(alloc, 199)?, "refused Unbuilt 1 1\n"),
-        (padded(alloc, 1_048_576)?, "done 7 1\n"),
-        (padded(alloc, 1_048_577)?, "refused TooLarge 1 1\n"),
-    ];
-    for (text, err) in &rows {
-        let got = answer(alloc, &["exec"], text.as_slice(), &[], &[], &[])?;
-        assert_eq!(rt;
-            got.err.held(),
-            err.as_bytes(),
-            "a text of {} bytes",
-            text.len()
-        );
-        assert_eq!(rt; got.out.held(), b"".as_slice());
-    }
+    expect_nested(&rt, alloc, 198, "done 1 1\n")?;
+    expect_nested(&rt, alloc, 199, "refused Unbuilt 1 1\n")?;
+    expect_padded(&rt, alloc, 1_048_576, "done 7 1\n")?;
+    expect_padded(&rt, alloc, 1_048_577, "refused TooLarge 1 1\n")?;
     Ok(())
 }
+
+static USAGE: [&[&str]; 16] = [
+    &[],
+    &["run"],
+    &["exec", "exec"],
+    &["--"],
+    &["--help"],
+    &["exec", "--"],
+    &["exec", "--turns"],
+    &["exec", "--turns", ""],
+    &["exec", "--turns", "0"],
+    &["exec", "--turns", "+1"],
+    &["exec", "--turns", "1x"],
+    &["exec", "--turns", "4611686018427387905"],
+    &["exec", "--turns", "00000000000000000001"],
+    &["exec", "--turns=4"],
+    &["exec", "--turns", "3", "--turns", "3"],
+    &["EXEC"],
+];
+
+const USAGE_LINE: &str = "usage: porch exec, compile, start, resume, clear, vet, show, drill\n";
 
 #[test]
 fn other_words_are_usage(rt: HostRuntime) -> Result<(), Fail> {
-    let rows: [&[&str]; 16] = [
-        &[],
-        &["run"],
-        &["exec", "exec"],
-        &["--"],
-        &["--help"],
-        &["exec", "--"],
-        &["exec", "--turns"],
-        &["exec", "--turns", ""],
-        &["exec", "--turns", "0"],
-        &["exec", "--turns", "+1"],
-        &["exec", "--turns", "1x"],
-        &["exec", "--turns", "4611686018427387905"],
-        &["exec", "--turns", "00000000000000000001"],
-        &["exec", "--turns=4"],
-        &["exec", "--turns", "3", "--turns", "3"],
-        &["EXEC"],
-    ];
-    let usage = "usage: porch exec, compile, start, resume, clear, vet, show, drill\n";
-    for words in rows {
+    for words in &USAGE {
         let got = answer(rt.alloc(), words, COUNTING.as_bytes(), &[1], &[], &[])?;
         assert_eq!(rt; got.status, Status::Usage, "{words:?}");
-        assert_eq!(rt; got.err.held(), usage.as_bytes(), "{words:?}");
-        assert_eq!(rt; got.out.held(), b"".as_slice(), "{words:?}");
+        expect_bytes(&rt, &got, "", USAGE_LINE, "other words");
     }
-    let most = answer(
-        rt.alloc(),
-        &["exec", "--turns", "4611686018427387904"],
-        COUNTING.as_bytes(),
-        &[],
-        &[],
-        &[],
-    )?;
-    assert_eq!(rt; most.status, Status::Done { value: 0, turns: 4 });
     Ok(())
 }
 
 #[test]
+fn the_greatest_budget(rt: HostRuntime) -> Result<(), Fail> {
+    let words = ["exec", "--turns", "4611686018427387904"];
+    let got = answer(rt.alloc(), &words, COUNTING.as_bytes(), &[], &[], &[])?;
+    assert_eq!(rt; got.status, Status::Done { value: 0, turns: 4 });
+    Ok(())
+}
+
+/// The calls of the source, of `out` and of `err` that fail, what these two get, and the answer.
+type Failing = (
+    &'static [u64],
+    &'static [u64],
+    &'static [u64],
+    &'static str,
+    &'static str,
+    Status,
+);
+
+static FAILING: [Failing; 8] = [
+    (&[1], &[], &[], "", "read fault\n", Status::ReadFault),
+    (&[2], &[], &[], "", "read fault\n", Status::ReadFault),
+    (
+        &[3],
+        &[],
+        &[],
+        "012",
+        "done 0 4\n",
+        Status::Done { value: 0, turns: 4 },
+    ),
+    (&[], &[1], &[], "", "write fault\n", Status::WriteFault),
+    (&[], &[2], &[], "0", "write fault\n", Status::WriteFault),
+    (&[], &[3], &[], "01", "write fault\n", Status::WriteFault),
+    (&[], &[], &[1], "012", "", Status::WriteFault),
+    (&[1], &[], &[1], "", "", Status::WriteFault),
+];
+
+#[test]
 fn failing_calls_end_the_work(rt: HostRuntime) -> Result<(), Fail> {
-    let alloc = rt.alloc();
-    let rows: [(&[u64], &[u64], &[u64], &str, &str, Status); 8] = [
-        (&[1], &[], &[], "", "read fault\n", Status::ReadFault),
-        (&[2], &[], &[], "", "read fault\n", Status::ReadFault),
-        (
-            &[3],
-            &[],
-            &[],
-            "012",
-            "done 0 4\n",
-            Status::Done { value: 0, turns: 4 },
-        ),
-        (&[], &[1], &[], "", "write fault\n", Status::WriteFault),
-        (&[], &[2], &[], "0", "write fault\n", Status::WriteFault),
-        (&[], &[3], &[], "01", "write fault\n", Status::WriteFault),
-        (&[], &[], &[1], "012", "", Status::WriteFault),
-        (&[1], &[], &[1], "", "", Status::WriteFault),
-    ];
-    for (reads, writes, lines, out, err, status) in rows {
-        let got = answer(alloc, &["exec"], COUNTING.as_bytes(), reads, writes, lines)?;
-        assert_eq!(rt;
-            got.out.held(),
-            out.as_bytes(),
-            "out at {reads:?} {writes:?} {lines:?}"
-        );
-        assert_eq!(rt;
-            got.err.held(),
-            err.as_bytes(),
-            "err at {reads:?} {writes:?} {lines:?}"
-        );
-        assert_eq!(rt; got.status, status, "at {reads:?} {writes:?} {lines:?}");
+    let text = COUNTING.as_bytes();
+    for (reads, writes, lines, out, err, status) in &FAILING {
+        let got = answer(rt.alloc(), &["exec"], text, reads, writes, lines)?;
+        assert_eq!(rt; got.status, *status, "at {reads:?} {writes:?} {lines:?}");
+        expect_bytes(&rt, &got, out, err, "failing calls");
     }
     Ok(())
 }
@@ -350,23 +372,25 @@ impl Sink for Sips {
     }
 }
 
+fn empty_sips(alloc: Global) -> Sips {
+    Sips {
+        bytes: Vec::new(alloc),
+        faults: 0,
+    }
+}
+
+fn answer_in_pieces(alloc: Global, out: &mut Sips, err: &mut Sips) -> Result<Status, AllocError> {
+    let bytes = Vec::from_slice(alloc, COUNTING.as_bytes())?;
+    let words = words_of(alloc, &["exec"])?;
+    let mut source = Drops { bytes, taken: 0 };
+    Ok(porch(alloc, words.as_slice(), &mut source, out, err))
+}
+
 #[test]
 fn pieces_may_be_short(rt: HostRuntime) -> Result<(), Fail> {
-    let alloc = rt.alloc();
-    let words = words_of(alloc, &["exec"])?;
-    let mut source = Drops {
-        bytes: Vec::from_slice(alloc, COUNTING.as_bytes())?,
-        taken: 0,
-    };
-    let mut out = Sips {
-        bytes: Vec::new(alloc),
-        faults: 0,
-    };
-    let mut err = Sips {
-        bytes: Vec::new(alloc),
-        faults: 0,
-    };
-    let status = porch(alloc, words.as_slice(), &mut source, &mut out, &mut err);
+    let mut out = empty_sips(rt.alloc());
+    let mut err = empty_sips(rt.alloc());
+    let status = answer_in_pieces(rt.alloc(), &mut out, &mut err)?;
     assert_eq!(rt; status, Status::Done { value: 0, turns: 4 });
     assert_eq!(rt; out.bytes.as_slice(), b"012".as_slice());
     assert_eq!(rt; err.bytes.as_slice(), b"done 0 4\n".as_slice());
@@ -380,17 +404,17 @@ fn each_act_and_rule_has_its_name(rt: HostRuntime) -> Result<(), Fail> {
         act: Act::Relation,
         turns: 18_446_744_073_709_551_615,
     };
-    crate::top::close(b"", trap, &mut err);
+    close(b"", trap, &mut err);
     let refused = Status::Refused(Refusal {
         at: 6,
         rule: Rule::WideConstant,
     });
-    crate::top::close(b"ab\ncd\nef", refused, &mut err);
+    close(b"ab\ncd\nef", refused, &mut err);
     let full = Status::StackFull {
         asked: 4112,
         left: 4096,
     };
-    crate::top::close(b"", full, &mut err);
+    close(b"", full, &mut err);
     assert_eq!(rt;
         err.held(),
         b"trap Relation 18446744073709551615\nrefused WideConstant 3 1\nstack full 4112 4096\n".as_slice()

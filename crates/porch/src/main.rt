@@ -1,22 +1,10 @@
 //! Porch: compiles, runs, stops and resumes C programs.
 //!
-//! `top` has the one call that does all of it, over a source and sinks that are handed in; `main` hands it the standard
-//! streams. `words` reads the command line, `reading` the source, `line` writes the closing line. What an answer says
-//! stands in `specs/Answers.antt`, the lines in `specs/Lines.antt`, the words in `specs/Words.antt`.
+//! `main` hands the standard streams and the words to the top call of porch_cli, which does the work, and ends with the
+//! number of its answer.
 #![tactic(auto)]
 
-mod compiled;
-mod exec;
-mod line;
-mod reading;
-mod status;
-#[cfg(test)]
-mod tests;
-mod top;
-mod words;
-
-use crate::status::{Status, number_of_status};
-use crate::top::{close, porch};
+use porch_cli::{Status, close, number_of_status, porch};
 use porch_edge::{StdSink, StdSource};
 use std::alloc::Global;
 use std::process::ExitCode;
