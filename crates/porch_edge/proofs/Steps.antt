@@ -1,5 +1,5 @@
 -- What a kept call makes of what a disk in memory tells.
-use Rattle.std.proofs.Common.{◌≡◌, ◌≢◌, ◌==◌, inl, inr, ℕ, ◌+◌, ◌^◌, ◌<◌, ◌≤◌, List, ◌∷◌, length, true, false, Vec, refl, sym, ◌∙◌, ap, subst, arith, if◌then◌else◌, OnOk, Result, Ok, Err}
+use Rattle.std.proofs.Common.{◌≡◌, ◌≢◌, ◌==◌, inl, inr, ℕ, ◌+◌, ◌^◌, ◌≤◌, List, ◌∷◌, length, true, false, Vec, refl, sym, ◌∙◌, ap, subst, arith, if◌then◌else◌, OnOk, Result, Ok, Err}
 use Rattle.std.proofs.lemmas.Bool.{cases_lt}
 use Rattle.std.specs.declared.alloc.Global.{Global}
 use Rattle.porch_edge.specs.declared.disk.FileName.{FileName}
