@@ -21,11 +21,15 @@ pub mod Calls
 pub mod Picks
 -- what it tells
 pub mod Memory
+-- why it tells moments: a worked example
+pub mod Moments
 -- facts on the files where one of them got other bytes
 pub mod OneFile
 -- facts on what two calls tell
 pub mod Told
 -- facts on calls one after another, and on two runs of them
 pub mod Runs
+-- facts on calls that leave a file as it was
+pub mod Others
 -- what only private contracts cite
 pub mod inside
