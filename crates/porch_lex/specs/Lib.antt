@@ -1,0 +1,14 @@
+-- the classes of bytes
+pub mod Characters
+-- integer constants
+pub mod Constants
+-- character constants and string literals
+pub mod Literals
+-- comments and includes
+pub mod Gaps
+-- what stands at the front of a text
+pub mod Lexemes
+-- which tokens a text has, and which rule it breaks first
+pub mod Tokens
+-- which words its tokens are to the grammar
+pub mod Words
