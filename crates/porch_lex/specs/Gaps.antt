@@ -1,15 +1,19 @@
 -- What stands between tokens beside white space: comments and includes.
-use Rattle.std.specs.Prelude.{ℕ, ◌==◌, nat_eq, ◌&&◌, if◌then◌else◌, Bool, List, [], ◌∷◌, drop, length, codes, Option, Some, None}
+use Rattle.std.specs.Prelude.{ℕ, ◌==◌, nat_eq, ◌&&◌, if◌then◌else◌, Bool, false, List, [], ◌∷◌, drop, length, codes, Option, Some, None}
 use Rattle.std.specs.List.{list_any, list_all, prefix_len, position_or_len, starts_with}
 use Rattle.porch_lex.specs.Characters.{is_blank, is_newline}
 use Rattle.porch_lex.specs.Literals.{counted_more}
+
+-- */ stands here
+abbrev pub is_comment_end : List ℕ → Bool
+is_comment_end [] = false
+is_comment_end (c ∷ cs) = c == 42 && starts_with nat_eq cs (codes "/")
 
 -- how many bytes there are up to the end of the first */
 abbrev pub comment_length : List ℕ → Option ℕ
 comment_length [] = None
 comment_length (c ∷ cs) =
-    if c == 42 && starts_with nat_eq cs (codes "/") then Some 2
-    else counted_more 1 (comment_length cs)
+    if is_comment_end (c ∷ cs) then Some 2 else counted_more 1 (comment_length cs)
 
 -- how many bytes there are up to the end of the line, its newline not counted
 abbrev pub line_length : List ℕ → ℕ

@@ -1,5 +1,5 @@
 -- What stands at the front of a text: white space, a comment, an include, a token, or a broken rule.
-use Rattle.std.specs.Prelude.{ℕ, ◌+◌, ◌==◌, nat_eq, ◌&&◌, ◌||◌, not, if◌then◌else◌, Bool, true, false, List, [], ◌∷◌, take, drop, length, codes, Option, Some, None}
+use Rattle.std.specs.Prelude.{ℕ, ◌+◌, ◌==◌, nat_eq, ◌&&◌, ◌||◌, not, if◌then◌else◌, Bool, true, false, List, [], ◌∷◌, ◌++◌, filter, take, drop, length, codes, Option, Some, None}
 use Rattle.std.specs.List.{list_all, find, prefix_len, starts_with}
 use Rattle.std.specs.Str.{bytes_eq}
 use Rattle.porch_tree.specs.declared.word.Keyword.{Keyword}
@@ -50,18 +50,16 @@ directive_lexeme cs =
     if is_include (take (line_length cs) cs) then Gap (line_length cs + 1) false
     else Fault rule.Outside
 
--- The longest mark in front.
-abbrev pub mark_of_length : ℕ → List ℕ → Option Mark
-mark_of_length n text =
-    find (λ m. length (mark_bytes m) == n && starts_with nat_eq text (mark_bytes m)) marks
+-- the marks by their length, the longest ones first
+abbrev pub marks_of_length : ℕ → List Mark
+marks_of_length n = filter (λ m. length (mark_bytes m) == n) marks
 
-abbrev pub first_some : Option Mark → Option Mark → Option Mark
-first_some None o = o
-first_some (Some m) o = Some m
+abbrev pub longest_first : List Mark
+longest_first = marks_of_length 3 ++ marks_of_length 2 ++ marks_of_length 1
 
+-- the longest mark in front of a text
 abbrev pub mark_in_front : List ℕ → Option Mark
-mark_in_front text =
-    first_some (mark_of_length 3 text) (first_some (mark_of_length 2 text) (mark_of_length 1 text))
+mark_in_front text = find (λ m. starts_with nat_eq text (mark_bytes m)) longest_first
 
 abbrev pub mark_lexeme : Option Mark → Lexeme
 mark_lexeme None = Fault rule.Byte

@@ -12,3 +12,5 @@ pub mod Lexemes
 pub mod Tokens
 -- which words its tokens are to the grammar
 pub mod Words
+-- what only private contracts cite
+pub mod inside

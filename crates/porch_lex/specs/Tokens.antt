@@ -29,11 +29,11 @@ pub data Lexes : (fresh : Bool) → (at : ℕ) → (text : List ℕ) → List To
 
 -- From a place on there are gaps and tokens up to a place where a rule is broken.
 pub data Faults : (fresh : Bool) → (at : ℕ) → (text : List ℕ) → Refusal → Type 0 where
-  here : {fresh : Bool} {at : ℕ} {text : List ℕ} (rule : Rule)
+  broken : {fresh : Bool} {at : ℕ} {text : List ℕ} (rule : Rule)
       → lexeme_at fresh text ≡ lexeme.Fault rule → Faults fresh at text (refusal_at at rule)
-  gap : {fresh : Bool} {at : ℕ} {text : List ℕ} {r : Refusal} (n : ℕ) (next : Bool)
+  after_gap : {fresh : Bool} {at : ℕ} {text : List ℕ} {r : Refusal} (n : ℕ) (next : Bool)
       → lexeme_at fresh text ≡ lexeme.Gap n next → Faults next (at + n) (drop n text) r → Faults fresh at text r
-  token : {fresh : Bool} {at : ℕ} {text : List ℕ} {r : Refusal} (kind : TokenKind) (n : ℕ)
+  after_token : {fresh : Bool} {at : ℕ} {text : List ℕ} {r : Refusal} (kind : TokenKind) (n : ℕ)
       → lexeme_at fresh text ≡ lexeme.Token kind n → Faults false (at + n) (drop n text) r → Faults fresh at text r
 
 -- the tokens of a text

@@ -8,10 +8,18 @@
 //! some small texts.
 #![tactic(auto)]
 
+mod character;
+mod constant;
+mod gap;
+mod keyword;
 pub mod lexeme;
 pub mod lexer;
+mod literal;
+mod mark;
 pub mod refusal;
 pub mod token;
+pub mod worked;
 
+pub use lexer::{SOURCE_LIMIT, lex};
 pub use refusal::{Refusal, Rule, SourceFault};
 pub use token::{Token, TokenKind, word_at};

@@ -1,0 +1,9 @@
+pub mod Slices
+pub mod Tests
+pub mod Numbers
+pub mod Lengths
+pub mod Keywords
+pub mod Marks
+pub mod Within
+pub mod Reached
+pub mod Readings

@@ -1,0 +1,156 @@
+//! The classes of bytes.
+
+ghost use Rattle.std.specs.Prelude.{◌≡◌, ◌∷◌, ◌+◌, ◌≤◌, nat_eq, [], length, take, drop};
+ghost use Rattle.std.specs.List.{list_all, prefix_len, position_or_len, starts_with};
+ghost use Rattle.porch_lex.specs.Characters.{is_space, is_blank, is_newline, is_digit, is_letter, is_word, is_printed, digit_value, is_digit_of};
+
+pub fn space(c: u8) -> bool
+    ensures { result ≡ is_space c }
+{
+    c == 32 || (9 <= c && c <= 13)
+}
+
+pub fn blank(c: u8) -> bool
+    ensures { result ≡ is_blank c }
+{
+    c == 32 || c == 9
+}
+
+pub fn digit(c: u8) -> bool
+    ensures { result ≡ is_digit c }
+{
+    48 <= c && c <= 57
+}
+
+pub fn letter(c: u8) -> bool
+    ensures { result ≡ is_letter c }
+{
+    (65 <= c && c <= 90) || (97 <= c && c <= 122) || c == 95
+}
+
+pub fn word_character(c: u8) -> bool
+    ensures { result ≡ is_word c }
+{
+    letter(c) || digit(c)
+}
+
+pub fn printed(c: u8) -> bool
+    ensures { result ≡ is_printed c }
+{
+    32 <= c && c <= 126
+}
+
+/// The value of a digit, or 16.
+pub fn value(c: u8) -> u8
+    ensures value { result ≡ digit_value c }
+    ensures small { result ≤ 16 }
+{
+    if digit(c) {
+        c - 48
+    } else if 97 <= c && c <= 102 {
+        c - 87
+    } else if 65 <= c && c <= 70 {
+        c - 55
+    } else {
+        16
+    }
+}
+
+pub fn digit_of(base: u8, c: u8) -> bool
+    ensures { result ≡ is_digit_of base c }
+{
+    value(c) < base
+}
+
+/// Whether this byte is the first of the text.
+pub fn begins(text: &[u8], c: u8) -> bool
+    ensures { result ≡ starts_with nat_eq text.now (c ∷ []) }
+{
+    match text {
+        [] => false,
+        [first, ..] => c == *first,
+    }
+}
+
+/// Whether these bytes are the first two of the text.
+pub fn begins_two(text: &[u8], c: u8, d: u8) -> bool
+    ensures { result ≡ starts_with nat_eq text.now (c ∷ d ∷ []) }
+{
+    match text {
+        [] => false,
+        [_] => false,
+        [first, second, ..] => c == *first && d == *second,
+    }
+}
+
+/// Whether there are only spaces and tabs.
+pub fn blanks(text: &[u8]) -> bool
+    ensures { result ≡ list_all is_blank text.now }
+{
+    text.iter().all(|c| blank(*c))
+}
+
+/// What follows so many bytes.
+#[tactic(auto, using(crate::proofs::Slices::all_behind))]
+pub fn behind(text: &[u8], at: usize) -> &[u8]
+    requires { at ≤ length text.now }
+    ensures { result.now ≡ drop at text.now }
+{
+    &text[at..]
+}
+
+/// So many bytes in front.
+pub fn front(text: &[u8], count: usize) -> &[u8]
+    requires { count ≤ length text.now }
+    ensures { result.now ≡ take count text.now }
+{
+    &text[..count]
+}
+
+/// How many letters, digits and underscores stand in front.
+pub fn word_length(text: &[u8]) -> usize
+    ensures value { result ≡ prefix_len is_word text.now }
+    ensures within { result ≤ length text.now }
+{
+    let mut at = 0;
+    while at < text.len() && word_character(text[at]) {
+        at += 1;
+    }
+    at
+}
+
+/// How many digits of a base stand in front.
+pub fn digit_length(base: u8, text: &[u8]) -> usize
+    ensures value { result ≡ prefix_len (is_digit_of base) text.now }
+    ensures within { result ≤ length text.now }
+{
+    let mut at = 0;
+    while at < text.len() && digit_of(base, text[at]) {
+        at += 1;
+    }
+    at
+}
+
+/// How many spaces and tabs stand in front.
+pub fn blank_length(text: &[u8]) -> usize
+    ensures value { result ≡ prefix_len is_blank text.now }
+    ensures within { result ≤ length text.now }
+{
+    let mut at = 0;
+    while at < text.len() && blank(text[at]) {
+        at += 1;
+    }
+    at
+}
+
+/// How many bytes stand before the first newline, or before the end.
+pub fn line_length(text: &[u8]) -> usize
+    ensures value { result ≡ position_or_len is_newline text.now }
+    ensures within { result ≤ length text.now }
+{
+    let mut at = 0;
+    while at < text.len() && text[at] != 10 {
+        at += 1;
+    }
+    at
+}

@@ -1,0 +1,128 @@
+//! Integer constants.
+
+ghost use Rattle.std.specs.Prelude.{◌≡◌, ◌∷◌, ◌≤◌, ◌<◌, ◌^◌, ◌==◌, nat_lt, IsTrue, length};
+ghost use Rattle.std.specs.List.{list_any};
+ghost use Rattle.porch_lex.specs.Constants.{is_x, is_u, is_l, constant_base, constant_body, is_suffix, number_in, greatest_value};
+ghost use Rattle.porch_lex.specs.Lexemes.{constant_lexeme};
+
+use crate::character::{begins, behind, digit_length, front, value};
+use crate::lexeme::Lexeme;
+use crate::refusal::Rule;
+use crate::token::TokenKind;
+
+fn x(c: u8) -> bool
+    ensures { result ≡ is_x c }
+{
+    c == 120 || c == 88
+}
+
+fn u(c: u8) -> bool
+    ensures { result ≡ is_u c }
+{
+    c == 117 || c == 85
+}
+
+fn l(c: u8) -> bool
+    ensures { result ≡ is_l c }
+{
+    c == 108 || c == 76
+}
+
+fn base_of(constant: &[u8]) -> u8
+    ensures { result ≡ constant_base constant.now }
+{
+    match constant {
+        [] => 10,
+        [only] => { if *only == 48 { 8 } else { 10 } }
+        [first, second, ..] => {
+            if *first == 48 {
+                if x(*second) { 16 } else { 8 }
+            } else {
+                10
+            }
+        }
+    }
+}
+
+#[tactic(auto, using(crate::proofs::Numbers::has_two))]
+fn body_of(constant: &[u8], base: u8) -> &[u8]
+    requires { base ≡ constant_base constant.now }
+    ensures { result.now ≡ constant_body constant.now }
+{
+    if base == 16 {
+        behind(constant, 2)
+    } else {
+        constant
+    }
+}
+
+fn suffix(text: &[u8]) -> bool
+    ensures { result ≡ is_suffix text.now }
+{
+    match text {
+        [] => true,
+        [only] => u(*only) || l(*only),
+        [first, second] => (u(*first) && l(*second)) || (l(*first) && u(*second)),
+        [_, _, _, ..] => false,
+    }
+}
+
+fn has_u(suffix: &[u8]) -> bool
+    ensures { result ≡ list_any is_u suffix.now }
+{
+    suffix.iter().any(|c| u(*c))
+}
+
+fn has_l(suffix: &[u8]) -> bool
+    ensures { result ≡ list_any is_l suffix.now }
+{
+    suffix.iter().any(|c| l(*c))
+}
+
+fn greatest(base: u8, suffix: &[u8]) -> u32
+    ensures { result ≡ greatest_value base suffix.now }
+{
+    if has_u(suffix) {
+        4294967295
+    } else if has_l(suffix) {
+        2147483647
+    } else if base == 10 {
+        2147483647
+    } else {
+        4294967295
+    }
+}
+
+/// Whether digits stand for a number above a limit.
+pub fn exceeds(base: u8, digits: &[u8], limit: u32) -> bool
+    requires low { 1 ≤ base }
+    requires high { base ≤ 16 }
+    ensures { result ≡ nat_lt limit (number_in base digits.now) }
+{
+    let mut number: u64 = 0;
+    for c in digits {
+        number = base as u64 * number + value(*c) as u64;
+        if number > limit as u64 {
+            return true;
+        }
+    }
+    false
+}
+
+/// What a word is that begins with a digit, and what follows it.
+pub fn constant(constant: &[u8], rest: &[u8]) -> Lexeme
+    ensures { result ≡ constant_lexeme constant.now rest.now }
+{
+    let base = base_of(constant);
+    let body = body_of(constant, base);
+    let count = digit_length(base, body);
+    let digits = front(body, count);
+    let tail = behind(body, count);
+    if begins(rest, 46) || !(0 < count && suffix(tail)) {
+        Lexeme::Fault(Rule::Word)
+    } else if exceeds(base, digits, greatest(base, tail)) {
+        Lexeme::Fault(Rule::WideConstant)
+    } else {
+        Lexeme::Token(TokenKind::Whole, constant.len())
+    }
+}

@@ -1,0 +1,88 @@
+//! Comments and includes.
+
+ghost use Rattle.std.specs.Prelude.{◌≡◌, ◌≤◌, ◌+◌, nat_eq, length};
+ghost use Rattle.std.specs.List.{list_any, starts_with};
+ghost use Rattle.porch_lex.specs.Gaps.{is_comment_end, comment_length, headers, behind_blanks, is_header_line, is_include};
+ghost use Rattle.porch_lex.specs.Lexemes.{comment_lexeme, directive_lexeme};
+
+use crate::character::{begins, behind, blank_length, blanks, front, line_length};
+use crate::lexeme::Lexeme;
+use crate::refusal::Rule;
+
+/// Whether the text ends a comment at its beginning.
+fn ends(text: &[u8]) -> bool
+    ensures { result ≡ is_comment_end text.now }
+{
+    match text {
+        [] => false,
+        [first, rest @ ..] => *first == 42 && begins(rest, 47),
+    }
+}
+
+/// How many bytes there are up to the end of the first `*/`.
+fn comment_end(text: &[u8]) -> Option<usize>
+    ensures { result ≡ comment_length text.now }
+{
+    let mut at = 0;
+    while at < text.len() {
+        if ends(behind(text, at)) {
+            return Some(at + 2);
+        }
+        at += 1;
+    }
+    None
+}
+
+/// What begins with `/*`: the text behind it.
+pub fn comment(text: &[u8]) -> Lexeme
+    ensures { result ≡ comment_lexeme (comment_length text.now) }
+{
+    match comment_end(text) {
+        None => Lexeme::Fault(Rule::Word),
+        Some(length) => Lexeme::Gap(length + 2, false),
+    }
+}
+
+fn skip_blanks(text: &[u8]) -> &[u8]
+    ensures { result.now ≡ behind_blanks text.now }
+{
+    behind(text, blank_length(text))
+}
+
+fn is_word(text: &[u8], word: &str) -> bool
+    ensures { result ≡ starts_with nat_eq text.now word.now }
+{
+    text.starts_with(word.as_bytes())
+}
+
+fn header_line(text: &[u8], header: &str) -> bool
+    ensures { result ≡ is_header_line text.now header.now }
+{
+    is_word(text, header) && blanks(behind(text, header.len()))
+}
+
+fn header(text: &[u8]) -> bool
+    ensures { result ≡ list_any (is_header_line text.now) headers }
+{
+    header_line(text, "<stdio.h>")
+        || (header_line(text, "<stdlib.h>") || header_line(text, "\"porch.h\""))
+}
+
+fn include(line: &[u8]) -> bool
+    ensures { result ≡ is_include line.now }
+{
+    let word = skip_blanks(line);
+    is_word(word, "include") && header(skip_blanks(behind(word, 7)))
+}
+
+/// What begins with a `#` that is the first in its line: the text behind it.
+pub fn directive(text: &[u8]) -> Lexeme
+    ensures { result ≡ directive_lexeme text.now }
+{
+    let length = line_length(text);
+    if include(front(text, length)) {
+        Lexeme::Gap(length + 1, false)
+    } else {
+        Lexeme::Fault(Rule::Outside)
+    }
+}

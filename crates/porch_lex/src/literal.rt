@@ -1,0 +1,164 @@
+//! Character constants and string literals.
+
+ghost use Rattle.std.specs.Prelude.{◌≡◌, ◌≤◌, ◌<◌, ◌∷◌, nat_lt, ◌+◌, ◌==◌, ◌&&◌, not, [], take, length, Some};
+ghost use Rattle.std.specs.List.{list_any};
+ghost use Rattle.porch_lex.specs.Literals.{simple_escapes, if_byte, octal_length, hexadecimal_escape, escape_length, counted_more, character_length, constant_end, character_constant_length, string_length};
+ghost use Rattle.porch_lex.specs.Constants.{number_in};
+ghost use Rattle.porch_lex.specs.Lexemes.{literal_lexeme};
+ghost use Rattle.porch_lex.specs.declared.token.TokenKind.TheVariants.{Character, Text};
+
+use crate::character::{begins, behind, digit_length, digit_of, front, printed};
+use crate::constant::exceeds;
+use crate::lexeme::Lexeme;
+use crate::refusal::Rule;
+use crate::token::TokenKind;
+
+/// What a character constant is, behind its first quote.
+pub fn character_constant(text: &[u8]) -> Lexeme
+    ensures { result ≡ literal_lexeme Character (character_constant_length text.now) }
+{
+    match character_constant_end(text) {
+        None => Lexeme::Fault(Rule::Word),
+        Some(length) => Lexeme::Token(TokenKind::Character, length + 1),
+    }
+}
+
+/// What a string literal is, behind its first quote.
+pub fn string_literal(text: &[u8]) -> Lexeme
+    ensures { result ≡ literal_lexeme Text (string_length text.now) }
+{
+    match string_end(text) {
+        None => Lexeme::Fault(Rule::Word),
+        Some(length) => Lexeme::Token(TokenKind::Text, length + 1),
+    }
+}
+
+/// Whether one of these bytes stands for another behind a backslash.
+fn simple(c: u8) -> bool
+    ensures { result ≡ list_any (λ e. e == c) simple_escapes }
+{
+    matches!(
+        c,
+        b'n' | b't' | b'r' | b'a' | b'b' | b'f' | b'v' | b'\\' | b'\'' | b'"' | b'?'
+    )
+}
+
+/// So many bytes, if the digits stand for a byte.
+fn byte_of(base: u8, digits: &[u8], length: usize) -> Option<usize>
+    requires low { 1 ≤ base }
+    requires high { base ≤ 16 }
+    ensures { result ≡ if_byte (number_in base digits.now) length }
+{
+    if exceeds(base, digits, 255) {
+        None
+    } else {
+        Some(length)
+    }
+}
+
+fn octal_count(text: &[u8]) -> usize
+    ensures value { result ≡ octal_length text.now }
+    ensures within { result ≤ length text.now }
+{
+    digit_length(8, text).min(3)
+}
+
+fn octal(text: &[u8]) -> Option<usize>
+    ensures { result ≡ if_byte (number_in 8 (take (octal_length text.now) text.now)) (octal_length text.now) }
+{
+    let count = octal_count(text);
+    byte_of(8, front(text, count), count)
+}
+
+fn hexadecimal(text: &[u8]) -> Option<usize>
+    ensures { result ≡ hexadecimal_escape text.now }
+{
+    let count = digit_length(16, text);
+    if 0 < count {
+        byte_of(16, front(text, count), count + 1)
+    } else {
+        None
+    }
+}
+
+fn escape(text: &[u8]) -> Option<usize>
+    ensures { result ≡ escape_length text.now }
+{
+    match text {
+        [] => None,
+        [first, rest @ ..] => {
+            if simple(*first) {
+                Some(1)
+            } else if digit_of(8, *first) {
+                octal(text)
+            } else if *first == 120 {
+                hexadecimal(rest)
+            } else {
+                None
+            }
+        }
+    }
+}
+
+fn escaped(text: &[u8]) -> Option<usize>
+    ensures { result ≡ counted_more 1 (escape_length text.now) }
+{
+    match escape(text) {
+        None => None,
+        Some(length) => Some(length + 1),
+    }
+}
+
+fn character(quote: u8, text: &[u8]) -> Option<usize>
+    ensures { result ≡ character_length quote text.now }
+{
+    match text {
+        [] => None,
+        [first, rest @ ..] => {
+            if *first == 92 {
+                escaped(rest)
+            } else if printed(*first) && *first != quote {
+                Some(1)
+            } else {
+                None
+            }
+        }
+    }
+}
+
+fn character_constant_end(text: &[u8]) -> Option<usize>
+    ensures { result ≡ character_constant_length text.now }
+{
+    match character(39, text) {
+        None => None,
+        Some(length) => closed(text, length),
+    }
+}
+
+/// One byte more, if it is the quote that ends a character constant.
+fn closed(text: &[u8], count: usize) -> Option<usize>
+    requires { count ≤ length text.now }
+    ensures { result ≡ constant_end (Some count) text.now }
+{
+    if begins(behind(text, count), 39) {
+        Some(count + 1)
+    } else {
+        None
+    }
+}
+
+fn string_end(text: &[u8]) -> Option<usize>
+    ensures { result ≡ string_length text.now }
+{
+    let mut at = 0;
+    while at < text.len() {
+        if text[at] == 34 {
+            return Some(at + 1);
+        }
+        match character(34, behind(text, at)) {
+            None => return None,
+            Some(count) => at += count,
+        }
+    }
+    None
+}
