@@ -7,3 +7,4 @@ pub mod Marks
 pub mod Within
 pub mod Reached
 pub mod Readings
+pub mod Rising

@@ -135,3 +135,6 @@ pub fault_from : (text : List ℕ) (result : Result (Vec Token) SourceFault) →
 fault_from text (Ok v) h g r f = tokens_or_fault text v.items r h f
 fault_from text (Err NoMemory) h g r f = inl refl
 fault_from text (Err (Refused s)) h g r f = inr (ap Refused (first_fault_alone text s r g f))
+
+pub tokens_alone : (text : List ℕ) (ts us : List Token) → IsTokens text ts → IsTokens text us → ts ≡ us
+tokens_alone text ts us h k = one_reading h.1 k.1

@@ -12,6 +12,7 @@ mod character;
 mod constant;
 mod gap;
 mod keyword;
+pub mod laws;
 pub mod lexeme;
 pub mod lexer;
 mod literal;

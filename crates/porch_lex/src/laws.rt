@@ -1,0 +1,29 @@
+//! What holds of the tokens of every text. The functions are laws, and have nothing to run.
+
+ghost use Rattle.std.specs.Prelude.{◌≡◌, ◌≤◌, List, ℕ, length};
+ghost use Rattle.porch_lex.specs.declared.refusal.Refusal.{Refusal};
+ghost use Rattle.porch_lex.specs.declared.token.Token.{Token};
+ghost use Rattle.porch_lex.specs.Tokens.{IsTokens, IsFirstLexFault, IsRising, bytes_of_tokens};
+
+/// A text has at most one list of tokens and at most one first fault, and never both.
+#[tactic(auto, using(crate::proofs::Readings::tokens_alone, crate::proofs::Readings::first_fault_alone, crate::proofs::Readings::tokens_or_fault))]
+pub fn a_text_is_read_in_one_way()
+    ensures tokens { (text : List ℕ) (ts us : List Token) → IsTokens text ts → IsTokens text us
+        → ts ≡ us }
+    ensures fault { (text : List ℕ) (r s : Refusal) → IsFirstLexFault text r
+        → IsFirstLexFault text s → r ≡ s }
+    ensures either { (text : List ℕ) (ts : List Token) (r : Refusal) → IsTokens text ts
+        → IsFirstLexFault text r → ⊥ }
+{}
+
+/// Tokens stand in order in their text and don't overlap. So there are at most as many as the text has
+/// bytes, and together they have at most as many bytes as it.
+#[tactic(auto, using(crate::proofs::Rising::tokens_rise, crate::proofs::Rising::tokens_are_few, crate::proofs::Rising::tokens_are_small))]
+pub fn tokens_stand_in_order()
+    ensures rising { (text : List ℕ) (ts : List Token) → IsTokens text ts
+        → IsRising 0 ts (length text) }
+    ensures count { (text : List ℕ) (ts : List Token) → IsTokens text ts
+        → length ts ≤ length text }
+    ensures bytes { (text : List ℕ) (ts : List Token) → IsTokens text ts
+        → bytes_of_tokens ts ≤ length text }
+{}
