@@ -51,7 +51,7 @@ comment_stops xs i h e =
 
 -- String literals.
 
-skipped : (cs : List ℕ) (k : ℕ) → string_from cs k ≡ counted_more k (string_from (drop k cs) 0)
+pub skipped : (cs : List ℕ) (k : ℕ) → string_from cs k ≡ counted_more k (string_from (drop k cs) 0)
 skipped [] zero = refl
 skipped [] (suc k) = refl
 skipped (c ∷ cs) zero = sym (counted_none (string_from (c ∷ cs) 0))

@@ -8,3 +8,5 @@ pub mod Within
 pub mod Reached
 pub mod Readings
 pub mod Rising
+pub mod Stable
+pub mod Spelled

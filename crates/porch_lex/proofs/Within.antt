@@ -88,7 +88,7 @@ more_within : (o : Option ℕ) (go : ℕ → Option ℕ) (m : ℕ) → ((n : ℕ
 more_within None go m h = tt
 more_within (Some n) go m h = counted 1 (go (n - 1)) m (suc m) (omega arith) (h (n - 1))
 
-string_from_within : (cs : List ℕ) (k : ℕ) → IsWithin (string_from cs k) (length cs)
+pub string_from_within : (cs : List ℕ) (k : ℕ) → IsWithin (string_from cs k) (length cs)
 string_from_within [] zero = tt
 string_from_within [] (suc k) = tt
 string_from_within (c ∷ cs) (suc k) = counted 1 (string_from cs k) (length cs) (length (c ∷ cs)) (omega arith) (string_from_within cs k)

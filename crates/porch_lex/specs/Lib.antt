@@ -12,5 +12,7 @@ pub mod Lexemes
 pub mod Tokens
 -- which words its tokens are to the grammar
 pub mod Words
+-- what the bytes of a token are
+pub mod Spelling
 -- what only private contracts cite
 pub mod inside

@@ -3,6 +3,7 @@
 ghost use Rattle.std.specs.Prelude.{◌≡◌, ◌≤◌, List, ℕ, length};
 ghost use Rattle.porch_lex.specs.declared.refusal.Refusal.{Refusal};
 ghost use Rattle.porch_lex.specs.declared.token.Token.{Token};
+ghost use Rattle.porch_lex.specs.Spelling.{AreSpelled};
 ghost use Rattle.porch_lex.specs.Tokens.{IsTokens, IsFirstLexFault, IsRising, bytes_of_tokens};
 
 /// A text has at most one list of tokens and at most one first fault, and never both.
@@ -26,4 +27,11 @@ pub fn tokens_stand_in_order()
         → length ts ≤ length text }
     ensures bytes { (text : List ℕ) (ts : List Token) → IsTokens text ts
         → bytes_of_tokens ts ≤ length text }
+{}
+
+/// The bytes of a token spell it: a keyword and a mark are their own, a name is a word that is no
+/// keyword, a constant and a literal are whole and right.
+#[tactic(auto, using(crate::proofs::Spelled::tokens_are_spelled))]
+pub fn tokens_are_spelled()
+    ensures { (text : List ℕ) (ts : List Token) → IsTokens text ts → AreSpelled text ts }
 {}

@@ -30,6 +30,11 @@ pub struct Token {
     pub to: u32,
 }
 
+/// The bytes that a token takes.
+const TOKEN_BYTES: usize = 12;
+
+const _: () = prove!(std::mem::size_of::<Token>() == TOKEN_BYTES);
+
 /// The token as the grammar tells it apart.
 pub fn word_at(token: Token) -> Word
     ensures { result ≡ kind_word token.kind }
