@@ -10,3 +10,4 @@ pub mod Readings
 pub mod Rising
 pub mod Stable
 pub mod Spelled
+pub mod Longest

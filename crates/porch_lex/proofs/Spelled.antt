@@ -36,7 +36,7 @@ at_test false x y text f g = g refl
 
 -- Words.
 
-prefix_passes : (p : ℕ → Bool) (xs : List ℕ) → list_all p (take (prefix_len p xs) xs) ≡ true
+pub prefix_passes : (p : ℕ → Bool) (xs : List ℕ) → list_all p (take (prefix_len p xs) xs) ≡ true
 prefix_passes p [] = refl
 prefix_passes p (x ∷ xs) = passes_at (p x) refl (prefix_passes p xs)
   where
@@ -93,12 +93,12 @@ literal_at quote reach c cs n q e l s =
 character_spells : (c : ℕ) (cs : List ℕ) (o : Option ℕ) → c ≡ 39 → character_constant_length cs ≡ o → SpellsIn (literal_lexeme kind.Character o) (c ∷ cs)
 character_spells c cs None q e = tt
 character_spells c cs (Some n) q e =
-    literal_at 39 character_constant_length c cs n q e (found (character_constant_length cs) n (length cs) (sym e) (constant_within cs)).1 (constant_stable cs n e)
+    literal_at 39 character_constant_length c cs n q e (found (character_constant_length cs) n (length cs) (sym e) (constant_within cs)).1 (constant_stable cs n n e (omega arith))
 
 string_spells : (c : ℕ) (cs : List ℕ) (o : Option ℕ) → c ≡ 34 → string_length cs ≡ o → SpellsIn (literal_lexeme kind.Text o) (c ∷ cs)
 string_spells c cs None q e = tt
 string_spells c cs (Some n) q e =
-    literal_at 34 string_length c cs n q e (found (string_length cs) n (length cs) (sym e) (string_within cs)).1 (string_stable cs n e)
+    literal_at 34 string_length c cs n q e (found (string_length cs) n (length cs) (sym e) (string_within cs)).1 (string_stable cs n n e (omega arith))
 
 -- Marks, and what is no token.
 

@@ -10,7 +10,7 @@ use Rattle.porch_lex.specs.Literals.{simple_escapes, if_byte, octal_length, hexa
 use Rattle.porch_lex.proofs.Lengths.{skipped}
 use Rattle.porch_lex.proofs.Within.{IsWithin, escape_within, character_within, string_from_within, octal_within, found}
 
-some_same : (n m : ℕ) → Some n ≡ Some m → n ≡ m
+pub some_same : (n m : ℕ) → Some n ≡ Some m → n ≡ m
 some_same n m e = ap (λ (o : Option ℕ). unwrap_or o 0) e
 
 -- Where it is found here, it is found there.
@@ -116,21 +116,27 @@ end_back : (b : Bool) (k n : ℕ) → (if b then Some (k + 1) else None) ≡ Som
 end_back true k n h = (refl, some_same (k + 1) n h)
 end_back false k n h = cc
 
-end_stable : (o : Option ℕ) (cs : List ℕ) (n : ℕ) → constant_end o cs ≡ Some n → (k : ℕ) × (o ≡ Some k) × (k + 1 ≡ n) × (constant_end (Some k) (take n cs) ≡ Some n)
-end_stable None cs n h = cc
-end_stable (Some k) cs n h =
-    let back = end_back (starts_with nat_eq (drop k cs) (39 ∷ [])) k n h in
-    let here : drop k (take (k + 1) cs) ≡ take 1 (drop k cs) = drop-take k 1 cs in
-    let front : take 1 (drop k (take (k + 1) cs)) ≡ take 1 (drop k cs) = ap (take 1) here ∙ take-take 1 1 (drop k cs) (omega arith) in
-    let same : constant_end (Some k) (take (k + 1) cs) ≡ Some n =
-    ap (λ (ys : List ℕ). if pointwise nat_eq (39 ∷ []) ys then Some (k + 1) else None) front ∙ h in
-    (k, refl, back.1, subst (λ (x : ℕ). constant_end (Some k) (take x cs) ≡ Some n) back.1 same)
+begins_far : (cs : List ℕ) (k j : ℕ) → k + 1 ≤ j → take 1 (drop k (take j cs)) ≡ take 1 (drop k cs)
+begins_far cs k j h =
+    let whole : k + (j - k) ≡ j = omega (arith, h) in
+    let some : 1 ≤ j - k = omega (arith, h) in
+    ap (λ (x : ℕ). take 1 (drop k (take x cs))) (sym whole)
+    ∙ ap (take 1) (drop-take k (j - k) cs) ∙ take-take 1 (j - k) (drop k cs) some
 
-pub constant_stable : (cs : List ℕ) (n : ℕ) → character_constant_length cs ≡ Some n → character_constant_length (take n cs) ≡ Some n
-constant_stable cs n h =
-    let back = end_stable (character_length 39 cs) cs n h in
+end_stable : (o : Option ℕ) (cs : List ℕ) (n j : ℕ) → constant_end o cs ≡ Some n → n ≤ j
+    → (k : ℕ) × (o ≡ Some k) × (k + 1 ≡ n) × (constant_end (Some k) (take j cs) ≡ Some n)
+end_stable None cs n j h l = cc
+end_stable (Some k) cs n j h l =
+    let back = end_back (starts_with nat_eq (drop k cs) (39 ∷ [])) k n h in
+    let size = back.1 in
+    let front = begins_far cs k j (omega (arith, size, l)) in
+    (k, refl, back.1, ap (λ (ys : List ℕ). if pointwise nat_eq (39 ∷ []) ys then Some (k + 1) else None) front ∙ h)
+
+pub constant_stable : (cs : List ℕ) (n j : ℕ) → character_constant_length cs ≡ Some n → n ≤ j → character_constant_length (take j cs) ≡ Some n
+constant_stable cs n j h l =
+    let back = end_stable (character_length 39 cs) cs n j h l in
     let size = back.2 in
-    ap (λ (o : Option ℕ). constant_end o (take n cs)) (character_stable 39 cs back.0 n back.1 (omega (arith, size))) ∙ back.3
+    ap (λ (o : Option ℕ). constant_end o (take j cs)) (character_stable 39 cs back.0 j back.1 (omega (arith, size, l))) ∙ back.3
 
 -- String literals.
 
@@ -164,5 +170,5 @@ string_stable_from (c ∷ cs) zero n (suc j) h l =
     ap (λ (o : Option ℕ). string_more o (string_from (take j cs))) (character_stable 34 (c ∷ cs) m (suc j) back.2 (omega (arith, size, beyond, l)))
     ∙ ap (counted_more 1) (string_stable_from cs (m - 1) r j back.3 (omega (arith, size, l))) ∙ ap Some size) h
 
-pub string_stable : (cs : List ℕ) (n : ℕ) → string_length cs ≡ Some n → string_length (take n cs) ≡ Some n
-string_stable cs n h = string_stable_from cs 0 n n h (omega arith)
+pub string_stable : (cs : List ℕ) (n j : ℕ) → string_length cs ≡ Some n → n ≤ j → string_length (take j cs) ≡ Some n
+string_stable cs n j h l = string_stable_from cs 0 n j h l

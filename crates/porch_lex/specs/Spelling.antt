@@ -1,5 +1,5 @@
 -- What the bytes of a token are, whatever stands round it.
-use Rattle.std.specs.Prelude.{ℕ, ◌≡◌, ◌&&◌, Bool, false, IsTrue, List, [], ◌∷◌, length, Option, None, Some}
+use Rattle.std.specs.Prelude.{ℕ, ◌≡◌, ◌-◌, ◌≤◌, ◌&&◌, Bool, false, IsTrue, List, [], ◌∷◌, length, take, drop, Option, None, Some}
 use Rattle.std.specs.List.{list_all}
 use Rattle.porch_tree.specs.Words.{keyword_bytes, mark_bytes}
 use Rattle.porch_lex.specs.declared.token.TokenKind.{TokenKind}
@@ -37,3 +37,12 @@ IsSpelling (Mark m) cs = cs ≡ mark_bytes m
 abbrev pub AreSpelled : List ℕ → List Token → Type 0
 AreSpelled text [] = Unit {0}
 AreSpelled text (t ∷ ts) = IsSpelling t.kind (bytes_between text t.from t.to) × AreSpelled text ts
+
+-- No more than so many bytes at the front of a text spell a token.
+abbrev pub IsLongest : List ℕ → ℕ → Type 0
+IsLongest text n = (k : TokenKind) (m : ℕ) → m ≤ length text → IsSpelling k (take m text) → m ≤ n
+
+-- No token could go on further.
+abbrev pub AreLongest : List ℕ → List Token → Type 0
+AreLongest text [] = Unit {0}
+AreLongest text (t ∷ ts) = IsLongest (drop t.from text) (t.to - t.from) × AreLongest text ts

@@ -3,7 +3,7 @@
 ghost use Rattle.std.specs.Prelude.{◌≡◌, ◌≤◌, List, ℕ, length};
 ghost use Rattle.porch_lex.specs.declared.refusal.Refusal.{Refusal};
 ghost use Rattle.porch_lex.specs.declared.token.Token.{Token};
-ghost use Rattle.porch_lex.specs.Spelling.{AreSpelled};
+ghost use Rattle.porch_lex.specs.Spelling.{AreSpelled, AreLongest};
 ghost use Rattle.porch_lex.specs.Tokens.{IsTokens, IsFirstLexFault, IsRising, bytes_of_tokens};
 
 /// A text has at most one list of tokens and at most one first fault, and never both.
@@ -34,4 +34,10 @@ pub fn tokens_stand_in_order()
 #[tactic(auto, using(crate::proofs::Spelled::tokens_are_spelled))]
 pub fn tokens_are_spelled()
     ensures { (text : List ℕ) (ts : List Token) → IsTokens text ts → AreSpelled text ts }
+{}
+
+/// Each token is the longest possible: no more bytes from its first one on spell a token.
+#[tactic(auto, using(crate::proofs::Longest::tokens_are_longest))]
+pub fn tokens_are_the_longest()
+    ensures { (text : List ℕ) (ts : List Token) → IsTokens text ts → AreLongest text ts }
 {}
