@@ -1,7 +1,5 @@
 -- How far the parts of a text reach, and how they are found from place to place.
-use Rattle.std.proofs.Common.{◌≡◌, ℕ, zero, suc, ◌+◌, ◌-◌, ◌<◌, ◌≤◌, ◌==◌, nat_eq, nat_lt, ◌&&◌, ◌||◌, not, Bool, true, false, if◌then◌else◌, List, [], ◌∷◌, length, get_or, take, drop, min, Option, Some, None, refl, sym, ap, ◌∙◌, subst, arith, add-one, drop-cons, drop-drop}
-use Rattle.std.specs.List.{starts_with, prefix_len, position_or_len}
-use Rattle.std.specs.Option.{option_map, IfSome}
+use Rattle.std.proofs.Common.{◌≡◌, ℕ, zero, suc, ◌+◌, ◌-◌, ◌<◌, ◌==◌, Bool, true, false, if◌then◌else◌, List, [], ◌∷◌, length, get_or, drop, Option, Some, None, refl, sym, ap, ◌∙◌, subst, arith, add-one, drop-cons, drop-drop}
 use Rattle.porch_lex.specs.Literals.{counted_more, string_from, string_more, character_length}
 use Rattle.porch_lex.specs.Gaps.{is_comment_end, comment_length}
 

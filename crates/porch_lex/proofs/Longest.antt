@@ -1,7 +1,6 @@
 -- No token could go on further.
-use Rattle.std.proofs.Common.{◌≡◌, ℕ, zero, suc, ◌+◌, ◌-◌, ◌<◌, ◌≤◌, ◌==◌, nat_eq, nat_lt, nat_le, ◌&&◌, ◌||◌, not, ◌⊎◌, inl, inr, Bool, true, false, IsTrue, if◌then◌else◌, cond, List, [], ◌∷◌, ◌++◌, length, take, drop, slice_get, get_or, Option, Some, None, unwrap_or, refl, sym, ap, ◌∙◌, subst, arith, add-one, drop-drop}
-use Rattle.std.specs.List.{starts_with, prefix_len, list_all, list_any, find}
-use Rattle.std.specs.Str.{bytes_eq}
+use Rattle.std.proofs.Common.{◌≡◌, ℕ, zero, suc, ◌+◌, ◌-◌, ◌≤◌, ◌==◌, nat_eq, nat_lt, nat_le, ◌&&◌, ◌||◌, not, ◌⊎◌, inl, inr, Bool, true, false, if◌then◌else◌, cond, List, [], ◌∷◌, length, take, drop, slice_get, get_or, Option, Some, None, unwrap_or, refl, sym, ap, ◌∙◌, subst, arith, drop-drop}
+use Rattle.std.specs.List.{starts_with, prefix_len, list_all, find}
 use Rattle.std.proofs.lemmas.Slice.Eq.{bytes_eq-Decides}
 use Rattle.std.proofs.lemmas.List.{length-take-le, take-append-drop}
 use Rattle.std.proofs.lemmas.List.Folds.{length-prefix_len, list_all-append}
@@ -11,18 +10,17 @@ use Rattle.porch_tree.specs.declared.word.Mark.{Mark}
 use Rattle.porch_tree.specs.declared.word.Mark.TheVariants as mark
 use Rattle.porch_tree.specs.Words.{keyword_bytes, mark_bytes}
 use Rattle.porch_lex.specs.declared.refusal.Rule.TheVariants as rule
-use Rattle.porch_lex.specs.declared.token.TokenKind.{TokenKind}
 use Rattle.porch_lex.specs.declared.token.TokenKind.TheVariants as kind
 use Rattle.porch_lex.specs.declared.token.Token.{Token}
 use Rattle.porch_lex.specs.declared.lexeme.Lexeme.{Lexeme}
 use Rattle.porch_lex.specs.declared.lexeme.Lexeme.TheVariants as lexeme
-use Rattle.porch_lex.specs.Characters.{is_between, is_space, is_letter, is_digit, is_word, digit_value, is_digit_of}
+use Rattle.porch_lex.specs.Characters.{is_between, is_space, is_letter, is_digit, is_word, is_digit_of}
 use Rattle.porch_lex.specs.Constants.{is_x, is_u, is_l, constant_base, constant_body, constant_suffix, digit_count, is_suffix, is_constant, is_wide}
 use Rattle.porch_lex.specs.Literals.{character_constant_length, string_length}
 use Rattle.porch_lex.specs.Gaps.{comment_length, line_length, is_include}
-use Rattle.porch_lex.specs.Lexemes.{keyword_of, word_lexeme, constant_lexeme, literal_lexeme, comment_lexeme, directive_lexeme, longest_first, mark_lexeme, lexeme_from, lexeme_at}
-use Rattle.porch_lex.specs.Tokens.{token_at, Lexes, done, gap, token, IsTokens}
-use Rattle.porch_lex.specs.Spelling.{is_name, begins_with_digit, IsSpelling, IsLongest, AreLongest}
+use Rattle.porch_lex.specs.Lexemes.{literal_lexeme, comment_lexeme, directive_lexeme, longest_first, mark_lexeme, lexeme_from, lexeme_at}
+use Rattle.porch_lex.specs.Tokens.{Lexes, done, gap, token, IsTokens}
+use Rattle.porch_lex.specs.Spelling.{is_name, IsLongest, AreLongest}
 use Rattle.porch_lex.proofs.Tests.{code_same, both_true}
 use Rattle.porch_lex.proofs.Stable.{some_same, constant_stable, string_stable}
 use Rattle.porch_lex.proofs.Spelled.{prefix_passes}

@@ -1,6 +1,5 @@
 -- What the lexer knows at each place of a text.
-use Rattle.std.proofs.Common.{◌≡◌, ℕ, ◌+◌, ◌-◌, ◌<◌, ◌≤◌, Bool, true, false, List, [], ◌∷◌, ◌++◌, length, drop, refl, sym, ap, ◌∙◌, subst, arith, length-drop, append_assoc, drop-drop}
-use Rattle.porch_lex.specs.declared.lexer.TheConstants.{SOURCE_LIMIT}
+use Rattle.std.proofs.Common.{◌≡◌, ℕ, ◌+◌, ◌<◌, ◌≤◌, Bool, true, false, List, [], ◌∷◌, ◌++◌, length, drop, refl, sym, ap, subst, arith, length-drop, append_assoc, drop-drop}
 use Rattle.porch_lex.specs.declared.refusal.Rule.{Rule}
 use Rattle.porch_lex.specs.declared.refusal.Refusal.{Refusal}
 use Rattle.porch_lex.specs.declared.token.TokenKind.{TokenKind}
@@ -8,7 +7,7 @@ use Rattle.porch_lex.specs.declared.token.Token.{Token}
 use Rattle.porch_lex.specs.declared.lexeme.Lexeme.{Lexeme}
 use Rattle.porch_lex.specs.declared.lexeme.Lexeme.TheVariants as lexeme
 use Rattle.porch_lex.specs.Lexemes.{lexeme_at}
-use Rattle.porch_lex.specs.Tokens.{token_at, refusal_at, Lexes, done, gap, token, Faults, broken, after_gap, after_token}
+use Rattle.porch_lex.specs.Tokens.{source_limit, token_at, refusal_at, Lexes, done, gap, token, Faults, broken, after_gap, after_token}
 use Rattle.porch_lex.proofs.Within.{FitsIn, lexeme_fits}
 
 -- The tokens before a place were found: what the text comes to from there, it comes to behind them.
@@ -74,5 +73,5 @@ gap_goes_on text fresh at n next h e = let size = fits fresh (drop at text) (lex
 pub token_goes_on : (text : List ℕ) (fresh : Bool) (at n : ℕ) (kind : TokenKind) → at ≤ length text → lexeme.Token kind n ≡ lexeme_at fresh (drop at text) → GoesOn text at n
 token_goes_on text fresh at n kind h e = let size = fits fresh (drop at text) (lexeme.Token kind n) e in (size.0, further text at n h size.1)
 
-pub limited : (n : ℕ) → n ≤ SOURCE_LIMIT → n ≤ 1048576
+pub limited : (n : ℕ) → n ≤ source_limit → n ≤ 1048576
 limited n h = h

@@ -1,7 +1,6 @@
 -- A text has one reading: its tokens, or the first rule that it breaks.
-use Rattle.std.proofs.Common.{◌≡◌, ℕ, ◌+◌, ◌<◌, ◌≤◌, ◌⊎◌, inl, inr, Bool, false, true, List, [], ◌∷◌, length, drop, Ok, Err, Result, IfOk, IfErr, MatchResult, refl, sym, ap, ◌∙◌, subst, arith}
+use Rattle.std.proofs.Common.{◌≡◌, ℕ, ◌+◌, ◌⊎◌, inl, inr, Bool, false, List, [], ◌∷◌, drop, Ok, Err, Result, IfOk, IfErr, MatchResult, refl, sym, ap, ◌∙◌, subst, arith}
 use Rattle.std.specs.Global.{Vec}
-use Rattle.porch_lex.specs.declared.lexer.TheConstants.{SOURCE_LIMIT}
 use Rattle.porch_lex.specs.declared.refusal.Rule.{Rule}
 use Rattle.porch_lex.specs.declared.refusal.Rule.TheVariants.{TooLarge}
 use Rattle.porch_lex.specs.declared.refusal.Refusal.{Refusal}

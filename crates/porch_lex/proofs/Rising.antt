@@ -1,8 +1,7 @@
 -- Tokens stand in order in their text.
-use Rattle.std.proofs.Common.{◌≡◌, ℕ, ◌+◌, ◌-◌, ◌<◌, ◌≤◌, Bool, List, [], ◌∷◌, length, drop, subst, arith, length-drop}
+use Rattle.std.proofs.Common.{◌≡◌, ℕ, ◌+◌, ◌-◌, ◌≤◌, Bool, List, [], ◌∷◌, length, drop, subst, arith, length-drop}
 use Rattle.std.proofs.lemmas.List.Sums.{sum_by-cons}
 use Rattle.porch_lex.specs.declared.token.Token.{Token}
-use Rattle.porch_lex.specs.declared.token.TokenKind.{TokenKind}
 use Rattle.porch_lex.specs.declared.lexeme.Lexeme.{Lexeme}
 use Rattle.porch_lex.specs.declared.lexeme.Lexeme.TheVariants as lexeme
 use Rattle.porch_lex.specs.Lexemes.{lexeme_at}

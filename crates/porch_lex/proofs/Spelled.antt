@@ -1,5 +1,5 @@
 -- The bytes of each token spell it.
-use Rattle.std.proofs.Common.{◌≡◌, ℕ, zero, suc, ◌+◌, ◌-◌, ◌<◌, ◌≤◌, ◌==◌, nat_eq, ◌&&◌, ◌||◌, not, Bool, true, false, IsTrue, if◌then◌else◌, cond, List, [], ◌∷◌, length, take, drop, Option, Some, None, unwrap_or, refl, sym, ap, ◌∙◌, subst, arith, add-one, drop-drop}
+use Rattle.std.proofs.Common.{◌≡◌, ℕ, suc, ◌+◌, ◌-◌, ◌≤◌, ◌==◌, nat_eq, ◌&&◌, ◌||◌, not, Bool, true, false, IsTrue, if◌then◌else◌, cond, List, [], ◌∷◌, length, take, drop, Option, Some, None, unwrap_or, refl, sym, ap, ◌∙◌, subst, arith, add-one, drop-drop}
 use Rattle.std.specs.List.{starts_with, prefix_len, list_all, find}
 use Rattle.std.specs.Str.{bytes_eq}
 use Rattle.std.proofs.lemmas.Slice.Eq.{bytes_eq-Decides}
@@ -9,7 +9,6 @@ use Rattle.porch_tree.specs.declared.word.Keyword.{Keyword}
 use Rattle.porch_tree.specs.declared.word.Mark.{Mark}
 use Rattle.porch_tree.specs.Words.{keywords, keyword_bytes, mark_bytes}
 use Rattle.porch_lex.specs.declared.refusal.Rule.TheVariants as rule
-use Rattle.porch_lex.specs.declared.token.TokenKind.{TokenKind}
 use Rattle.porch_lex.specs.declared.token.TokenKind.TheVariants as kind
 use Rattle.porch_lex.specs.declared.token.Token.{Token}
 use Rattle.porch_lex.specs.declared.lexeme.Lexeme.{Lexeme}
@@ -20,10 +19,10 @@ use Rattle.porch_lex.specs.Literals.{character_constant_length, string_length}
 use Rattle.porch_lex.specs.Gaps.{comment_length, line_length, is_include}
 use Rattle.porch_lex.specs.Lexemes.{keyword_of, word_kind, word_lexeme, constant_lexeme, literal_lexeme, comment_lexeme, directive_lexeme, longest_first, mark_lexeme, lexeme_from, lexeme_at}
 use Rattle.porch_lex.specs.Words.{bytes_between}
-use Rattle.porch_lex.specs.Tokens.{token_at, Lexes, done, gap, token, IsTokens}
-use Rattle.porch_lex.specs.Spelling.{is_name, begins_with_digit, IsLiteral, IsSpelling, AreSpelled}
-use Rattle.porch_lex.proofs.Tests.{code_same, both_true}
-use Rattle.porch_lex.proofs.Within.{IsWithin, found, constant_within, string_within}
+use Rattle.porch_lex.specs.Tokens.{Lexes, done, gap, token, IsTokens}
+use Rattle.porch_lex.specs.Spelling.{is_name, IsLiteral, IsSpelling, AreSpelled}
+use Rattle.porch_lex.proofs.Tests.{code_same}
+use Rattle.porch_lex.proofs.Within.{found, constant_within, string_within}
 use Rattle.porch_lex.proofs.Stable.{constant_stable, string_stable}
 
 abbrev SpellsIn : Lexeme → List ℕ → Type 0

@@ -1,14 +1,13 @@
 -- A literal is the same where the text ends behind it.
-use Rattle.std.proofs.Common.{◌≡◌, ℕ, zero, suc, ◌+◌, ◌-◌, ◌<◌, ◌≤◌, ◌==◌, nat_eq, nat_lt, ◌&&◌, not, Bool, true, false, if◌then◌else◌, cond, List, [], ◌∷◌, length, take, drop, min, Option, Some, None, unwrap_or, refl, sym, ap, ◌∙◌, subst, arith, lit<, add-one}
+use Rattle.std.proofs.Common.{◌≡◌, ℕ, zero, suc, ◌+◌, ◌-◌, ◌<◌, ◌≤◌, ◌==◌, nat_eq, nat_lt, Bool, true, false, if◌then◌else◌, cond, List, [], ◌∷◌, length, take, drop, min, Option, Some, None, unwrap_or, refl, sym, ap, ◌∙◌, arith}
 use Rattle.std.specs.List.{starts_with, prefix_len, list_any}
-use Rattle.std.specs.Option.{option_map}
 use lib.Pointwise.{pointwise}
 use Rattle.std.proofs.lemmas.List.{take-take, drop-take}
-use Rattle.porch_lex.specs.Characters.{is_digit_of, is_printed}
+use Rattle.porch_lex.specs.Characters.{is_digit_of}
 use Rattle.porch_lex.specs.Constants.{number_in}
 use Rattle.porch_lex.specs.Literals.{simple_escapes, if_byte, octal_length, hexadecimal_escape, escape_length, counted_more, character_length, constant_end, character_constant_length, string_from, string_more, string_length}
 use Rattle.porch_lex.proofs.Lengths.{skipped}
-use Rattle.porch_lex.proofs.Within.{IsWithin, escape_within, character_within, string_from_within, octal_within, found}
+use Rattle.porch_lex.proofs.Within.{IsWithin, escape_within, character_within, string_from_within, found}
 
 pub some_same : (n m : ℕ) → Some n ≡ Some m → n ≡ m
 some_same n m e = ap (λ (o : Option ℕ). unwrap_or o 0) e

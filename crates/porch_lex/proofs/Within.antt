@@ -1,15 +1,15 @@
 -- What is read of a text has a byte at least, and ends within the text.
-use Rattle.std.proofs.Common.{◌≡◌, ℕ, zero, suc, ◌+◌, ◌-◌, ◌<◌, ◌≤◌, ◌==◌, nat_eq, nat_lt, ◌&&◌, ◌||◌, not, Bool, true, false, if◌then◌else◌, List, [], ◌∷◌, length, take, drop, min, cond, Option, Some, None, refl, sym, ap, ◌∙◌, subst, arith, lit<, length-drop}
+use Rattle.std.proofs.Common.{◌≡◌, ℕ, zero, suc, ◌+◌, ◌-◌, ◌<◌, ◌≤◌, ◌==◌, nat_eq, nat_lt, ◌&&◌, ◌||◌, not, Bool, true, false, if◌then◌else◌, List, [], ◌∷◌, length, take, drop, min, cond, Option, Some, None, refl, sym, subst, arith, lit<, length-drop}
 use lib.Pointwise.{pointwise}
 use Rattle.std.proofs.lemmas.List.{length-take-le}
 use Rattle.std.specs.List.{starts_with, prefix_len, list_any, find}
-use Rattle.std.specs.Option.{option_map, IfSome}
+use Rattle.std.specs.Option.{IfSome}
 use Rattle.std.proofs.lemmas.List.Sums.{prefix_len-le-length}
 use Rattle.porch_lex.specs.Characters.{is_space, is_newline, is_letter, is_digit, is_word, is_digit_of, is_printed}
-use Rattle.porch_lex.specs.Constants.{number_in, is_constant, is_wide}
+use Rattle.porch_lex.specs.Constants.{is_constant, is_wide}
 use Rattle.porch_lex.specs.Literals.{simple_escapes, if_byte, octal_length, hexadecimal_escape, escape_length, counted_more, character_length, constant_end, character_constant_length, string_from, string_more, string_length}
 use Rattle.porch_lex.specs.Gaps.{is_comment_end, comment_length, line_length, is_include}
-use Rattle.porch_lex.specs.Lexemes.{longest_first, mark_in_front, mark_lexeme, word_lexeme, constant_lexeme, literal_lexeme, comment_lexeme, directive_lexeme, lexeme_at, lexeme_from}
+use Rattle.porch_lex.specs.Lexemes.{longest_first, mark_lexeme, constant_lexeme, literal_lexeme, comment_lexeme, directive_lexeme, lexeme_at, lexeme_from}
 use Rattle.porch_lex.specs.declared.token.TokenKind.{TokenKind}
 use Rattle.porch_lex.specs.declared.token.TokenKind.TheVariants as kind
 use Rattle.porch_lex.specs.declared.refusal.Rule.TheVariants as rule

@@ -1,5 +1,5 @@
 -- Integer constants: digits in one of three bases and a suffix.
-use Rattle.std.specs.Prelude.{ℕ, ◌+◌, ◌*◌, ◌==◌, nat_lt, ◌&&◌, ◌||◌, if◌then◌else◌, Bool, true, false, List, [], ◌∷◌, take, drop, length, fold}
+use Rattle.std.specs.Prelude.{ℕ, ◌+◌, ◌*◌, ◌==◌, nat_lt, ◌&&◌, ◌||◌, if◌then◌else◌, Bool, true, false, List, [], ◌∷◌, take, drop, fold}
 use Rattle.std.specs.List.{prefix_len, list_any}
 use Rattle.porch_lex.specs.Characters.{digit_value, is_digit_of}
 

@@ -1,5 +1,5 @@
 -- What stands between tokens beside white space: comments and includes.
-use Rattle.std.specs.Prelude.{ℕ, ◌==◌, nat_eq, ◌&&◌, if◌then◌else◌, Bool, false, List, [], ◌∷◌, drop, length, codes, Option, Some, None}
+use Rattle.std.specs.Prelude.{ℕ, ◌==◌, nat_eq, ◌&&◌, if◌then◌else◌, Bool, false, List, [], ◌∷◌, ◌++◌, drop, length, codes, Option, Some, None}
 use Rattle.std.specs.List.{list_any, list_all, prefix_len, position_or_len, starts_with}
 use Rattle.porch_lex.specs.Characters.{is_blank, is_newline}
 use Rattle.porch_lex.specs.Literals.{counted_more}
@@ -19,8 +19,12 @@ comment_length (c ∷ cs) =
 abbrev pub line_length : List ℕ → ℕ
 line_length = position_or_len is_newline
 
+-- in double quotes
+abbrev pub quoted : List ℕ → List ℕ
+quoted cs = 34 ∷ (cs ++ 34 ∷ [])
+
 abbrev pub headers : List (List ℕ)
-headers = codes "<stdio.h>" ∷ codes "<stdlib.h>" ∷ codes "\"porch.h\"" ∷ []
+headers = codes "<stdio.h>" ∷ codes "<stdlib.h>" ∷ quoted (codes "porch.h") ∷ []
 
 abbrev pub behind_blanks : List ℕ → List ℕ
 behind_blanks cs = drop (prefix_len is_blank cs) cs

@@ -1,11 +1,10 @@
 -- What stands at the front of a text: white space, a comment, an include, a token, or a broken rule.
-use Rattle.std.specs.Prelude.{ℕ, ◌+◌, ◌==◌, nat_eq, ◌&&◌, ◌||◌, not, if◌then◌else◌, Bool, true, false, List, [], ◌∷◌, ◌++◌, filter, take, drop, length, codes, Option, Some, None}
-use Rattle.std.specs.List.{list_all, find, prefix_len, starts_with}
+use Rattle.std.specs.Prelude.{ℕ, ◌+◌, ◌==◌, nat_eq, ◌&&◌, ◌||◌, not, if◌then◌else◌, Bool, false, List, [], ◌∷◌, ◌++◌, filter, take, drop, length, codes, Option, Some, None}
+use Rattle.std.specs.List.{find, prefix_len, starts_with}
 use Rattle.std.specs.Str.{bytes_eq}
 use Rattle.porch_tree.specs.declared.word.Keyword.{Keyword}
 use Rattle.porch_tree.specs.declared.word.Mark.{Mark}
 use Rattle.porch_tree.specs.Words.{keywords, marks, keyword_bytes, mark_bytes}
-use Rattle.porch_lex.specs.declared.refusal.Rule.{Rule}
 use Rattle.porch_lex.specs.declared.refusal.Rule.TheVariants as rule
 use Rattle.porch_lex.specs.declared.token.TokenKind.{TokenKind}
 use Rattle.porch_lex.specs.declared.token.TokenKind.TheVariants as kind

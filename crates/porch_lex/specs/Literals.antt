@@ -1,13 +1,13 @@
 -- Character constants and string literals. Each length counts the bytes up to the end of what it is about.
-use Rattle.std.specs.Prelude.{ℕ, zero, suc, ◌+◌, ◌-◌, ◌==◌, nat_eq, nat_lt, ◌&&◌, not, if◌then◌else◌, Bool, List, [], ◌∷◌, take, drop, min, codes, Option, Some, None}
+use Rattle.std.specs.Prelude.{ℕ, zero, suc, ◌+◌, ◌-◌, ◌==◌, nat_eq, nat_lt, ◌&&◌, not, if◌then◌else◌, List, [], ◌∷◌, ◌++◌, take, drop, min, codes, Option, Some, None}
 use Rattle.std.specs.List.{list_any, prefix_len, starts_with}
 use Rattle.std.specs.Option.{option_map}
 use Rattle.porch_lex.specs.Characters.{is_printed, is_digit_of}
 use Rattle.porch_lex.specs.Constants.{number_in}
 
--- the letters and marks that stand behind a backslash for one byte
+-- the letters that stand behind a backslash for one byte, the backslash, the quotes and the question mark
 abbrev pub simple_escapes : List ℕ
-simple_escapes = codes "ntrabfv\\'\"?"
+simple_escapes = codes "ntrabfv" ++ 92 ∷ 39 ∷ 34 ∷ 63 ∷ []
 
 -- a value that a byte can have
 abbrev pub if_byte : ℕ → ℕ → Option ℕ
@@ -16,6 +16,9 @@ if_byte value n = if nat_lt 255 value then None else Some n
 -- one to three octal digits
 abbrev pub octal_length : List ℕ → ℕ
 octal_length cs = min 3 (prefix_len (is_digit_of 8) cs)
+
+abbrev pub octal_escape : List ℕ → Option ℕ
+octal_escape cs = if_byte (number_in 8 (take (octal_length cs) cs)) (octal_length cs)
 
 -- hexadecimal digits behind the x
 abbrev pub hexadecimal_escape : List ℕ → Option ℕ
@@ -29,8 +32,7 @@ abbrev pub escape_length : List ℕ → Option ℕ
 escape_length [] = None
 escape_length (c ∷ cs) =
     if list_any (λ e. e == c) simple_escapes then Some 1
-    else if is_digit_of 8 c
-    then if_byte (number_in 8 (take (octal_length (c ∷ cs)) (c ∷ cs))) (octal_length (c ∷ cs))
+    else if is_digit_of 8 c then octal_escape (c ∷ cs)
     else if c == 120 then hexadecimal_escape cs
     else None
 

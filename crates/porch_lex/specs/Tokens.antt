@@ -1,6 +1,5 @@
 -- Which tokens a text has, and which rule of tokens it breaks first.
 use Rattle.std.specs.Prelude.{ℕ, ◌≡◌, ◌+◌, ◌-◌, ◌<◌, ◌≤◌, ◌⊎◌, Bool, true, false, List, [], ◌∷◌, length, drop, sum_by}
-use Rattle.porch_lex.specs.declared.lexer.TheConstants.{SOURCE_LIMIT}
 use Rattle.porch_lex.specs.declared.refusal.Rule.{Rule}
 use Rattle.porch_lex.specs.declared.refusal.Rule.TheVariants.{TooLarge}
 use Rattle.porch_lex.specs.declared.refusal.Refusal.{Refusal}
@@ -8,9 +7,12 @@ use Rattle.porch_lex.specs.declared.refusal.SourceFault.{SourceFault}
 use Rattle.porch_lex.specs.declared.refusal.SourceFault.TheVariants.{Refused, NoMemory}
 use Rattle.porch_lex.specs.declared.token.TokenKind.{TokenKind}
 use Rattle.porch_lex.specs.declared.token.Token.{Token}
-use Rattle.porch_lex.specs.declared.lexeme.Lexeme.{Lexeme}
 use Rattle.porch_lex.specs.declared.lexeme.Lexeme.TheVariants as lexeme
 use Rattle.porch_lex.specs.Lexemes.{lexeme_at}
+
+-- the greatest number of bytes of a source
+abbrev pub source_limit : ℕ
+source_limit = 1048576
 
 abbrev pub token_at : TokenKind → ℕ → ℕ → Token
 token_at kind at n = record { kind = kind; from = at; to = at + n }
@@ -38,13 +40,13 @@ pub data Faults : (fresh : Bool) → (at : ℕ) → (text : List ℕ) → Refusa
 
 -- the tokens of a text
 abbrev pub IsTokens : List ℕ → List Token → Type 0
-IsTokens text ts = (length text ≤ SOURCE_LIMIT) × Lexes true 0 text ts
+IsTokens text ts = (length text ≤ source_limit) × Lexes true 0 text ts
 
 -- The first rule that a text breaks: its size comes before its tokens.
 abbrev pub IsFirstLexFault : List ℕ → Refusal → Type 0
 IsFirstLexFault text r =
-    (SOURCE_LIMIT < length text) × (r ≡ refusal_at 0 TooLarge)
-    ⊎ (length text ≤ SOURCE_LIMIT) × Faults true 0 text r
+    (source_limit < length text) × (r ≡ refusal_at 0 TooLarge)
+    ⊎ (length text ≤ source_limit) × Faults true 0 text r
 
 -- want of memory, or the refusal of the first rule that is broken
 abbrev pub IsLexFault : List ℕ → SourceFault → Type 0

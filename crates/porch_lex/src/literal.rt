@@ -2,7 +2,7 @@
 
 ghost use Rattle.std.specs.Prelude.{◌≡◌, ◌≤◌, ◌<◌, ◌∷◌, nat_lt, ◌+◌, ◌==◌, ◌&&◌, not, [], take, length, Some};
 ghost use Rattle.std.specs.List.{list_any};
-ghost use Rattle.porch_lex.specs.Literals.{simple_escapes, if_byte, octal_length, hexadecimal_escape, escape_length, counted_more, character_length, constant_end, character_constant_length, string_length};
+ghost use Rattle.porch_lex.specs.Literals.{simple_escapes, if_byte, octal_length, octal_escape, hexadecimal_escape, escape_length, counted_more, character_length, constant_end, character_constant_length, string_length};
 ghost use Rattle.porch_lex.specs.Constants.{number_in};
 ghost use Rattle.porch_lex.specs.Lexemes.{literal_lexeme};
 ghost use Rattle.porch_lex.specs.declared.token.TokenKind.TheVariants.{Character, Text};
@@ -64,7 +64,7 @@ fn octal_count(text: &[u8]) -> usize
 }
 
 fn octal(text: &[u8]) -> Option<usize>
-    ensures { result ≡ if_byte (number_in 8 (take (octal_length text.now) text.now)) (octal_length text.now) }
+    ensures { result ≡ octal_escape text.now }
 {
     let count = octal_count(text);
     byte_of(8, front(text, count), count)

@@ -1,4 +1,4 @@
-use Rattle.std.proofs.Common.{◌≡◌, ◌-◌, Some, length, drop, sym, ap, ◌∙◌, arith, length-drop}
+use Rattle.std.proofs.Common.{◌≡◌, Some, drop, sym, ap, ◌∙◌, arith, length-drop}
 use Rattle.porch_lex.specs.Literals.{character_length}
 use Rattle.porch_lex.proofs.Lengths.{string_goes}
 use Rattle.porch_lex.proofs.Tests.{code_differs}
