@@ -1,5 +1,5 @@
 -- A text has one reading: its tokens, or the first rule that it breaks.
-use Rattle.std.proofs.Common.{◌≡◌, ℕ, ◌+◌, ◌⊎◌, inl, inr, Bool, false, List, [], ◌∷◌, drop, Ok, Err, Result, IfOk, IfErr, MatchResult, refl, sym, ap, ◌∙◌, subst, arith}
+use Rattle.std.proofs.Common.{◌≡◌, ◌<◌, length, ℕ, ◌+◌, ◌⊎◌, inl, inr, Bool, false, List, [], ◌∷◌, drop, Ok, Err, Result, IfOk, IfErr, MatchResult, refl, sym, ap, ◌∙◌, subst, arith}
 use Rattle.std.specs.Global.{Vec}
 use Rattle.porch_lex.specs.declared.refusal.Rule.{Rule}
 use Rattle.porch_lex.specs.declared.refusal.Rule.TheVariants.{TooLarge}
@@ -12,7 +12,7 @@ use Rattle.porch_lex.specs.declared.token.Token.{Token}
 use Rattle.porch_lex.specs.declared.lexeme.Lexeme.{Lexeme}
 use Rattle.porch_lex.specs.declared.lexeme.Lexeme.TheVariants as lexeme
 use Rattle.porch_lex.specs.Lexemes.{lexeme_at}
-use Rattle.porch_lex.specs.Tokens.{token_at, refusal_at, Lexes, done, gap, token, Faults, broken, after_gap, after_token, IsTokens, IsFirstLexFault, IsLexFault}
+use Rattle.porch_lex.specs.Tokens.{source_limit, token_at, refusal_at, Lexes, done, gap, token, Faults, broken, after_gap, after_token, IsTokens, IsFirstLexFault, IsLexFault}
 
 -- the parts of a lexeme
 abbrev gap_count : Lexeme → ℕ
@@ -137,3 +137,6 @@ fault_from text (Err (Refused s)) h g r f = inr (ap Refused (first_fault_alone t
 
 pub tokens_alone : (text : List ℕ) (ts us : List Token) → IsTokens text ts → IsTokens text us → ts ≡ us
 tokens_alone text ts us h k = one_reading h.1 k.1
+
+pub large : (text : List ℕ) → source_limit < length text → IsFirstLexFault text (refusal_at 0 TooLarge)
+large text h = inl (h, refl)

@@ -28,7 +28,7 @@ pub enum Lexeme {
 }
 
 /// What stands at the front of a text. `fresh` says that only white space stands before it in its line.
-pub fn next_lexeme(fresh: bool, text: &[u8]) -> Lexeme
+pub(crate) fn next_lexeme(fresh: bool, text: &[u8]) -> Lexeme
     ensures { result ≡ lexeme_at fresh text.now }
 {
     match text {

@@ -14,7 +14,7 @@ mod gap;
 mod keyword;
 pub mod laws;
 pub mod lexeme;
-pub mod lexer;
+mod lexer;
 mod literal;
 mod mark;
 pub mod refusal;

@@ -1,13 +1,13 @@
 //! What the definitions say of some small texts. The functions are laws, and have nothing to run.
 
-ghost use Rattle.std.specs.Prelude.{◌≡◌, ◌∷◌, [], true, false, codes};
+ghost use Rattle.std.specs.Prelude.{◌≡◌, ◌<◌, ℕ, List, ◌∷◌, [], length, true, false, codes};
 ghost use Rattle.porch_tree.specs.declared.word.Keyword.TheVariants.{Int};
 ghost use Rattle.porch_tree.specs.declared.word.Mark.TheVariants.{PlusPlus, Plus, ShiftRightEqual, ShiftRight, Arrow, Dot, Slash};
 ghost use Rattle.porch_lex.specs.declared.refusal.Rule.TheVariants.{Byte, Word, WideConstant, Outside, TooLarge};
 ghost use Rattle.porch_lex.specs.declared.token.TokenKind.TheVariants.{Name, Keyword, Whole, Character, Text, Mark};
 ghost use Rattle.porch_lex.specs.declared.lexeme.Lexeme.TheVariants.{End, Gap, Token, Fault};
 ghost use Rattle.porch_lex.specs.Lexemes.{lexeme_at};
-ghost use Rattle.porch_lex.specs.Tokens.{IsTokens, IsFirstLexFault, token_at, refusal_at};
+ghost use Rattle.porch_lex.specs.Tokens.{IsTokens, IsFirstLexFault, source_limit, token_at, refusal_at};
 
 /// `a+++b` is `a`, `++`, `+`, `b`, and a slash begins a comment only before a star.
 pub fn marks_are_the_longest()
@@ -71,4 +71,20 @@ pub fn gaps_have_no_tokens()
     ensures newline { lexeme_at false (codes "\n#") ≡ Gap 1 true }
     ensures blank { lexeme_at false (codes " #") ≡ Gap 1 false }
     ensures byte { lexeme_at false (codes "@") ≡ Fault Byte }
+{}
+
+/// A whole text: `#include <stdio.h>` and `a+++b` in the next line.
+pub fn a_small_text_has_these_tokens()
+    ensures { IsTokens (codes "#include <stdio.h>\na+++b")
+        (token_at Name 19 1 ∷ token_at (Mark PlusPlus) 20 2 ∷ token_at (Mark Plus) 22 1
+        ∷ token_at Name 23 1 ∷ []) }
+{}
+
+/// The first rule that is broken: the size before the tokens, and of these the first wrong one.
+#[tactic(auto, using(crate::proofs::Readings::large))]
+pub fn the_first_broken_rule_is_named()
+    ensures word { IsFirstLexFault (codes "int 08;@") (refusal_at 4 Word) }
+    ensures byte { IsFirstLexFault (codes "x;\n/**/#") (refusal_at 7 Byte) }
+    ensures large { (text : List ℕ) → source_limit < length text
+        → IsFirstLexFault text (refusal_at 0 TooLarge) }
 {}
