@@ -4,48 +4,48 @@ ghost use Rattle.std.specs.Prelude.{◌≡◌, ◌∷◌, ◌+◌, ◌≤◌, na
 ghost use Rattle.std.specs.List.{list_all, prefix_len, position_or_len, starts_with};
 ghost use Rattle.porch_lex.specs.Characters.{is_space, is_blank, is_newline, is_digit, is_letter, is_word, is_printed, digit_value, is_digit_of};
 
-pub fn space(c: u8) -> bool
+pub fn is_space(c: u8) -> bool
     ensures { result ≡ is_space c }
 {
     c == 32 || (9 <= c && c <= 13)
 }
 
-pub fn blank(c: u8) -> bool
+pub fn is_blank(c: u8) -> bool
     ensures { result ≡ is_blank c }
 {
     c == 32 || c == 9
 }
 
-pub fn digit(c: u8) -> bool
+pub fn is_digit(c: u8) -> bool
     ensures { result ≡ is_digit c }
 {
     48 <= c && c <= 57
 }
 
-pub fn letter(c: u8) -> bool
+pub fn is_letter(c: u8) -> bool
     ensures { result ≡ is_letter c }
 {
     (65 <= c && c <= 90) || (97 <= c && c <= 122) || c == 95
 }
 
-pub fn word_character(c: u8) -> bool
+pub fn is_word(c: u8) -> bool
     ensures { result ≡ is_word c }
 {
-    letter(c) || digit(c)
+    is_letter(c) || is_digit(c)
 }
 
-pub fn printed(c: u8) -> bool
+pub fn is_printed(c: u8) -> bool
     ensures { result ≡ is_printed c }
 {
     32 <= c && c <= 126
 }
 
 /// The value of a digit, or 16.
-pub fn value(c: u8) -> u8
+pub fn digit_value(c: u8) -> u8
     ensures value { result ≡ digit_value c }
     ensures small { result ≤ 16 }
 {
-    if digit(c) {
+    if is_digit(c) {
         c - 48
     } else if 97 <= c && c <= 102 {
         c - 87
@@ -56,10 +56,10 @@ pub fn value(c: u8) -> u8
     }
 }
 
-pub fn digit_of(base: u8, c: u8) -> bool
+pub fn is_digit_of(base: u8, c: u8) -> bool
     ensures { result ≡ is_digit_of base c }
 {
-    value(c) < base
+    digit_value(c) < base
 }
 
 /// Whether this byte is the first of the text.
@@ -84,15 +84,15 @@ pub fn begins_two(text: &[u8], c: u8, d: u8) -> bool
 }
 
 /// Whether there are only spaces and tabs.
-pub fn blanks(text: &[u8]) -> bool
+pub fn are_blanks(text: &[u8]) -> bool
     ensures { result ≡ list_all is_blank text.now }
 {
-    text.iter().all(|c| blank(*c))
+    text.iter().all(|c| is_blank(*c))
 }
 
 /// What follows so many bytes.
 #[tactic(auto, using(crate::proofs::Slices::all_behind))]
-pub fn behind(text: &[u8], at: usize) -> &[u8]
+pub fn rest_from(text: &[u8], at: usize) -> &[u8]
     requires { at ≤ length text.now }
     ensures { result.now ≡ drop at text.now }
 {
@@ -100,7 +100,7 @@ pub fn behind(text: &[u8], at: usize) -> &[u8]
 }
 
 /// So many bytes in front.
-pub fn front(text: &[u8], count: usize) -> &[u8]
+pub fn front_of(text: &[u8], count: usize) -> &[u8]
     requires { count ≤ length text.now }
     ensures { result.now ≡ take count text.now }
 {
@@ -113,7 +113,7 @@ pub fn word_length(text: &[u8]) -> usize
     ensures within { result ≤ length text.now }
 {
     let mut at = 0;
-    while at < text.len() && word_character(text[at]) {
+    while at < text.len() && is_word(text[at]) {
         at += 1;
     }
     at
@@ -125,7 +125,7 @@ pub fn digit_length(base: u8, text: &[u8]) -> usize
     ensures within { result ≤ length text.now }
 {
     let mut at = 0;
-    while at < text.len() && digit_of(base, text[at]) {
+    while at < text.len() && is_digit_of(base, text[at]) {
         at += 1;
     }
     at
@@ -137,7 +137,7 @@ pub fn blank_length(text: &[u8]) -> usize
     ensures within { result ≤ length text.now }
 {
     let mut at = 0;
-    while at < text.len() && blank(text[at]) {
+    while at < text.len() && is_blank(text[at]) {
         at += 1;
     }
     at

@@ -5,24 +5,24 @@ ghost use Rattle.std.specs.List.{list_any};
 ghost use Rattle.porch_lex.specs.Constants.{is_x, is_u, is_l, constant_base, constant_body, is_suffix, number_in, greatest_value};
 ghost use Rattle.porch_lex.specs.Lexemes.{constant_lexeme};
 
-use crate::character::{begins, behind, digit_length, front, value};
+use crate::character::{begins, digit_length, digit_value, front_of, rest_from};
 use crate::lexeme::Lexeme;
 use crate::refusal::Rule;
 use crate::token::TokenKind;
 
-fn x(c: u8) -> bool
+fn is_x(c: u8) -> bool
     ensures { result ≡ is_x c }
 {
     c == 120 || c == 88
 }
 
-fn u(c: u8) -> bool
+fn is_u(c: u8) -> bool
     ensures { result ≡ is_u c }
 {
     c == 117 || c == 85
 }
 
-fn l(c: u8) -> bool
+fn is_l(c: u8) -> bool
     ensures { result ≡ is_l c }
 {
     c == 108 || c == 76
@@ -36,7 +36,7 @@ fn base_of(constant: &[u8]) -> u8
         [only] => { if *only == 48 { 8 } else { 10 } }
         [first, second, ..] => {
             if *first == 48 {
-                if x(*second) { 16 } else { 8 }
+                if is_x(*second) { 16 } else { 8 }
             } else {
                 10
             }
@@ -50,19 +50,19 @@ fn body_of(constant: &[u8], base: u8) -> &[u8]
     ensures { result.now ≡ constant_body constant.now }
 {
     if base == 16 {
-        behind(constant, 2)
+        rest_from(constant, 2)
     } else {
         constant
     }
 }
 
-fn suffix(text: &[u8]) -> bool
+fn is_suffix(text: &[u8]) -> bool
     ensures { result ≡ is_suffix text.now }
 {
     match text {
         [] => true,
-        [only] => u(*only) || l(*only),
-        [first, second] => (u(*first) && l(*second)) || (l(*first) && u(*second)),
+        [only] => is_u(*only) || is_l(*only),
+        [first, second] => (is_u(*first) && is_l(*second)) || (is_l(*first) && is_u(*second)),
         [_, _, _, ..] => false,
     }
 }
@@ -70,16 +70,16 @@ fn suffix(text: &[u8]) -> bool
 fn has_u(suffix: &[u8]) -> bool
     ensures { result ≡ list_any is_u suffix.now }
 {
-    suffix.iter().any(|c| u(*c))
+    suffix.iter().any(|c| is_u(*c))
 }
 
 fn has_l(suffix: &[u8]) -> bool
     ensures { result ≡ list_any is_l suffix.now }
 {
-    suffix.iter().any(|c| l(*c))
+    suffix.iter().any(|c| is_l(*c))
 }
 
-fn greatest(base: u8, suffix: &[u8]) -> u32
+fn greatest_value(base: u8, suffix: &[u8]) -> u32
     ensures { result ≡ greatest_value base suffix.now }
 {
     if has_u(suffix) {
@@ -101,7 +101,7 @@ pub fn exceeds(base: u8, digits: &[u8], limit: u32) -> bool
 {
     let mut number: u64 = 0;
     for c in digits {
-        number = base as u64 * number + value(*c) as u64;
+        number = base as u64 * number + digit_value(*c) as u64;
         if number > limit as u64 {
             return true;
         }
@@ -110,17 +110,17 @@ pub fn exceeds(base: u8, digits: &[u8], limit: u32) -> bool
 }
 
 /// What a word is that begins with a digit, and what follows it.
-pub fn constant(constant: &[u8], rest: &[u8]) -> Lexeme
+pub fn constant_lexeme(constant: &[u8], rest: &[u8]) -> Lexeme
     ensures { result ≡ constant_lexeme constant.now rest.now }
 {
     let base = base_of(constant);
     let body = body_of(constant, base);
     let count = digit_length(base, body);
-    let digits = front(body, count);
-    let tail = behind(body, count);
-    if begins(rest, 46) || !(0 < count && suffix(tail)) {
+    let digits = front_of(body, count);
+    let tail = rest_from(body, count);
+    if begins(rest, 46) || !(0 < count && is_suffix(tail)) {
         Lexeme::Fault(Rule::Word)
-    } else if exceeds(base, digits, greatest(base, tail)) {
+    } else if exceeds(base, digits, greatest_value(base, tail)) {
         Lexeme::Fault(Rule::WideConstant)
     } else {
         Lexeme::Token(TokenKind::Whole, constant.len())

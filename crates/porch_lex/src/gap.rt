@@ -5,12 +5,12 @@ ghost use Rattle.std.specs.List.{list_any, starts_with};
 ghost use Rattle.porch_lex.specs.Gaps.{is_comment_end, comment_length, headers, behind_blanks, is_header_line, is_include};
 ghost use Rattle.porch_lex.specs.Lexemes.{comment_lexeme, directive_lexeme};
 
-use crate::character::{begins, behind, blank_length, blanks, front, line_length};
+use crate::character::{are_blanks, begins, blank_length, front_of, line_length, rest_from};
 use crate::lexeme::Lexeme;
 use crate::refusal::Rule;
 
 /// Whether the text ends a comment at its beginning.
-fn ends(text: &[u8]) -> bool
+fn is_comment_end(text: &[u8]) -> bool
     ensures { result ≡ is_comment_end text.now }
 {
     match text {
@@ -20,12 +20,12 @@ fn ends(text: &[u8]) -> bool
 }
 
 /// How many bytes there are up to the end of the first `*/`.
-fn comment_end(text: &[u8]) -> Option<usize>
+fn comment_length(text: &[u8]) -> Option<usize>
     ensures { result ≡ comment_length text.now }
 {
     let mut at = 0;
     while at < text.len() {
-        if ends(behind(text, at)) {
+        if is_comment_end(rest_from(text, at)) {
             return Some(at + 2);
         }
         at += 1;
@@ -34,53 +34,53 @@ fn comment_end(text: &[u8]) -> Option<usize>
 }
 
 /// What begins with `/*`: the text behind it.
-pub fn comment(text: &[u8]) -> Lexeme
+pub fn comment_lexeme(text: &[u8]) -> Lexeme
     ensures { result ≡ comment_lexeme (comment_length text.now) }
 {
-    match comment_end(text) {
+    match comment_length(text) {
         None => Lexeme::Fault(Rule::Word),
         Some(length) => Lexeme::Gap(length + 2, false),
     }
 }
 
-fn skip_blanks(text: &[u8]) -> &[u8]
+fn behind_blanks(text: &[u8]) -> &[u8]
     ensures { result.now ≡ behind_blanks text.now }
 {
-    behind(text, blank_length(text))
+    rest_from(text, blank_length(text))
 }
 
-fn is_word(text: &[u8], word: &str) -> bool
+fn begins_with(text: &[u8], word: &str) -> bool
     ensures { result ≡ starts_with nat_eq text.now word.now }
 {
     text.starts_with(word.as_bytes())
 }
 
-fn header_line(text: &[u8], header: &str) -> bool
+fn is_header_line(text: &[u8], header: &str) -> bool
     ensures { result ≡ is_header_line text.now header.now }
 {
-    is_word(text, header) && blanks(behind(text, header.len()))
+    begins_with(text, header) && are_blanks(rest_from(text, header.len()))
 }
 
-fn header(text: &[u8]) -> bool
+fn is_header(text: &[u8]) -> bool
     ensures { result ≡ list_any (is_header_line text.now) headers }
 {
-    header_line(text, "<stdio.h>")
-        || (header_line(text, "<stdlib.h>") || header_line(text, "\"porch.h\""))
+    is_header_line(text, "<stdio.h>")
+        || (is_header_line(text, "<stdlib.h>") || is_header_line(text, "\"porch.h\""))
 }
 
-fn include(line: &[u8]) -> bool
+fn is_include(line: &[u8]) -> bool
     ensures { result ≡ is_include line.now }
 {
-    let word = skip_blanks(line);
-    is_word(word, "include") && header(skip_blanks(behind(word, 7)))
+    let word = behind_blanks(line);
+    begins_with(word, "include") && is_header(behind_blanks(rest_from(word, 7)))
 }
 
 /// What begins with a `#` that is the first in its line: the text behind it.
-pub fn directive(text: &[u8]) -> Lexeme
+pub fn directive_lexeme(text: &[u8]) -> Lexeme
     ensures { result ≡ directive_lexeme text.now }
 {
     let length = line_length(text);
-    if include(front(text, length)) {
+    if is_include(front_of(text, length)) {
         Lexeme::Gap(length + 1, false)
     } else {
         Lexeme::Fault(Rule::Outside)

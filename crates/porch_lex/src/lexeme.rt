@@ -5,11 +5,11 @@ ghost use Rattle.std.specs.List.{prefix_len};
 ghost use Rattle.porch_lex.specs.Characters.{is_word};
 ghost use Rattle.porch_lex.specs.Lexemes.{keyword_of, word_kind, word_lexeme, constant_lexeme, mark_in_front, mark_lexeme, lexeme_from, lexeme_at};
 
-use crate::character::{begins, behind, digit, front, letter, space, word_length};
-use crate::constant::constant;
-use crate::gap::{comment, directive};
-use crate::keyword::keyword;
-use crate::literal::{character_constant, string_literal};
+use crate::character::{begins, front_of, is_digit, is_letter, is_space, rest_from, word_length};
+use crate::constant::constant_lexeme;
+use crate::gap::{comment_lexeme, directive_lexeme};
+use crate::keyword::keyword_of;
+use crate::literal::{character_lexeme, string_lexeme};
 use crate::mark::{mark_length, mark_of};
 use crate::refusal::Rule;
 use crate::token::TokenKind;
@@ -33,64 +33,64 @@ pub(crate) fn next_lexeme(fresh: bool, text: &[u8]) -> Lexeme
 {
     match text {
         [] => Lexeme::End,
-        [first, rest @ ..] => some_lexeme(fresh, *first, rest, text),
+        [first, rest @ ..] => lexeme_from(fresh, *first, rest, text),
     }
 }
 
 #[tactic(auto, using(crate::proofs::Within::begins_some))]
-fn some_lexeme(fresh: bool, first: u8, rest: &[u8], text: &[u8]) -> Lexeme
+fn lexeme_from(fresh: bool, first: u8, rest: &[u8], text: &[u8]) -> Lexeme
     requires { text.now ≡ first ∷ rest.now }
     ensures { result ≡ lexeme_from fresh first rest.now }
 {
-    if space(first) {
+    if is_space(first) {
         let next = fresh || first == 10;
         Lexeme::Gap(1, next)
-    } else if letter(first) {
-        word(first, rest)
-    } else if digit(first) {
-        number(first, rest, text)
+    } else if is_letter(first) {
+        word_lexeme(first, rest)
+    } else if is_digit(first) {
+        number_lexeme(first, rest, text)
     } else if first == 39 {
-        character_constant(rest)
+        character_lexeme(rest)
     } else if first == 34 {
-        string_literal(rest)
+        string_lexeme(rest)
     } else if first == 47 && begins(rest, 42) {
-        comment(behind(rest, 1))
+        comment_lexeme(rest_from(rest, 1))
     } else if first == 35 && fresh {
-        directive(rest)
+        directive_lexeme(rest)
     } else {
-        mark(first, rest)
+        mark_lexeme(first, rest)
     }
 }
 
 #[tactic(auto, using(crate::proofs::Slices::length_front))]
-fn word(first: u8, rest: &[u8]) -> Lexeme
+fn word_lexeme(first: u8, rest: &[u8]) -> Lexeme
     ensures { result ≡ word_lexeme (first ∷ take (prefix_len is_word rest.now) rest.now) }
 {
     let more = word_length(rest);
-    let kind = kind_of(first, front(rest, more));
+    let kind = word_kind(first, front_of(rest, more));
     Lexeme::Token(kind, more + 1)
 }
 
-fn kind_of(first: u8, rest: &[u8]) -> TokenKind
+fn word_kind(first: u8, rest: &[u8]) -> TokenKind
     ensures { result ≡ word_kind (keyword_of (first ∷ rest.now)) }
 {
-    match keyword(first, rest) {
+    match keyword_of(first, rest) {
         None => TokenKind::Name,
         Some(keyword) => TokenKind::Keyword(keyword),
     }
 }
 
 #[tactic(auto, using(crate::proofs::Slices::front_more))]
-fn number(first: u8, rest: &[u8], text: &[u8]) -> Lexeme
+fn number_lexeme(first: u8, rest: &[u8], text: &[u8]) -> Lexeme
     requires { text.now ≡ first ∷ rest.now }
     ensures { result ≡ constant_lexeme (first ∷ take (prefix_len is_word rest.now) rest.now)
         (drop (prefix_len is_word rest.now) rest.now) }
 {
     let more = word_length(rest);
-    constant(front(text, more + 1), behind(rest, more))
+    constant_lexeme(front_of(text, more + 1), rest_from(rest, more))
 }
 
-fn mark(first: u8, rest: &[u8]) -> Lexeme
+fn mark_lexeme(first: u8, rest: &[u8]) -> Lexeme
     ensures { result ≡ mark_lexeme (mark_in_front (first ∷ rest.now)) }
 {
     match mark_of(first, rest) {

@@ -6,7 +6,7 @@ ghost use Rattle.porch_lex.specs.declared.refusal.SourceFault.TheVariants.{NoMem
 ghost use Rattle.porch_lex.specs.declared.token.Token.{Token};
 ghost use Rattle.porch_lex.specs.Tokens.{IsTokens, IsFirstLexFault, IsLexFault};
 
-use crate::character::behind;
+use crate::character::rest_from;
 use crate::lexeme::{Lexeme, next_lexeme};
 use crate::refusal::{Refusal, Rule, SourceFault};
 use crate::token::Token;
@@ -55,7 +55,7 @@ fn fill(text: &[u8], tokens: &mut Vec<Token>) -> Result<(), SourceFault>
     let mut at = 0;
     let mut fresh = true;
     'lexemes: loop {
-        match next_lexeme(fresh, behind(text, at)) {
+        match next_lexeme(fresh, rest_from(text, at)) {
             Lexeme::End => return Ok(()),
             Lexeme::Gap(length, next) => {
                 at += length;

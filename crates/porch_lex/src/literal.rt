@@ -7,34 +7,34 @@ ghost use Rattle.porch_lex.specs.Constants.{number_in};
 ghost use Rattle.porch_lex.specs.Lexemes.{literal_lexeme};
 ghost use Rattle.porch_lex.specs.declared.token.TokenKind.TheVariants.{Character, Text};
 
-use crate::character::{begins, behind, digit_length, digit_of, front, printed};
+use crate::character::{begins, digit_length, front_of, is_digit_of, is_printed, rest_from};
 use crate::constant::exceeds;
 use crate::lexeme::Lexeme;
 use crate::refusal::Rule;
 use crate::token::TokenKind;
 
 /// What a character constant is, behind its first quote.
-pub fn character_constant(text: &[u8]) -> Lexeme
+pub fn character_lexeme(text: &[u8]) -> Lexeme
     ensures { result ≡ literal_lexeme Character (character_constant_length text.now) }
 {
-    match character_constant_end(text) {
+    match character_constant_length(text) {
         None => Lexeme::Fault(Rule::Word),
         Some(length) => Lexeme::Token(TokenKind::Character, length + 1),
     }
 }
 
 /// What a string literal is, behind its first quote.
-pub fn string_literal(text: &[u8]) -> Lexeme
+pub fn string_lexeme(text: &[u8]) -> Lexeme
     ensures { result ≡ literal_lexeme Text (string_length text.now) }
 {
-    match string_end(text) {
+    match string_length(text) {
         None => Lexeme::Fault(Rule::Word),
         Some(length) => Lexeme::Token(TokenKind::Text, length + 1),
     }
 }
 
 /// Whether one of these bytes stands for another behind a backslash.
-fn simple(c: u8) -> bool
+fn is_simple_escape(c: u8) -> bool
     ensures { result ≡ list_any (λ e. e == c) simple_escapes }
 {
     matches!(
@@ -44,7 +44,7 @@ fn simple(c: u8) -> bool
 }
 
 /// So many bytes, if the digits stand for a byte.
-fn byte_of(base: u8, digits: &[u8], length: usize) -> Option<usize>
+fn length_if_byte(base: u8, digits: &[u8], length: usize) -> Option<usize>
     requires low { 1 ≤ base }
     requires high { base ≤ 16 }
     ensures { result ≡ if_byte (number_in base digits.now) length }
@@ -56,43 +56,43 @@ fn byte_of(base: u8, digits: &[u8], length: usize) -> Option<usize>
     }
 }
 
-fn octal_count(text: &[u8]) -> usize
+fn octal_length(text: &[u8]) -> usize
     ensures value { result ≡ octal_length text.now }
     ensures within { result ≤ length text.now }
 {
     digit_length(8, text).min(3)
 }
 
-fn octal(text: &[u8]) -> Option<usize>
+fn octal_escape(text: &[u8]) -> Option<usize>
     ensures { result ≡ octal_escape text.now }
 {
-    let count = octal_count(text);
-    byte_of(8, front(text, count), count)
+    let count = octal_length(text);
+    length_if_byte(8, front_of(text, count), count)
 }
 
-fn hexadecimal(text: &[u8]) -> Option<usize>
+fn hexadecimal_escape(text: &[u8]) -> Option<usize>
     ensures { result ≡ hexadecimal_escape text.now }
 {
     let count = digit_length(16, text);
     if 0 < count {
-        byte_of(16, front(text, count), count + 1)
+        length_if_byte(16, front_of(text, count), count + 1)
     } else {
         None
     }
 }
 
-fn escape(text: &[u8]) -> Option<usize>
+fn escape_length(text: &[u8]) -> Option<usize>
     ensures { result ≡ escape_length text.now }
 {
     match text {
         [] => None,
         [first, rest @ ..] => {
-            if simple(*first) {
+            if is_simple_escape(*first) {
                 Some(1)
-            } else if digit_of(8, *first) {
-                octal(text)
+            } else if is_digit_of(8, *first) {
+                octal_escape(text)
             } else if *first == 120 {
-                hexadecimal(rest)
+                hexadecimal_escape(rest)
             } else {
                 None
             }
@@ -100,24 +100,24 @@ fn escape(text: &[u8]) -> Option<usize>
     }
 }
 
-fn escaped(text: &[u8]) -> Option<usize>
+fn after_backslash(text: &[u8]) -> Option<usize>
     ensures { result ≡ counted_more 1 (escape_length text.now) }
 {
-    match escape(text) {
+    match escape_length(text) {
         None => None,
         Some(length) => Some(length + 1),
     }
 }
 
-fn character(quote: u8, text: &[u8]) -> Option<usize>
+fn character_length(quote: u8, text: &[u8]) -> Option<usize>
     ensures { result ≡ character_length quote text.now }
 {
     match text {
         [] => None,
         [first, rest @ ..] => {
             if *first == 92 {
-                escaped(rest)
-            } else if printed(*first) && *first != quote {
+                after_backslash(rest)
+            } else if is_printed(*first) && *first != quote {
                 Some(1)
             } else {
                 None
@@ -126,28 +126,28 @@ fn character(quote: u8, text: &[u8]) -> Option<usize>
     }
 }
 
-fn character_constant_end(text: &[u8]) -> Option<usize>
+fn character_constant_length(text: &[u8]) -> Option<usize>
     ensures { result ≡ character_constant_length text.now }
 {
-    match character(39, text) {
+    match character_length(39, text) {
         None => None,
-        Some(length) => closed(text, length),
+        Some(length) => constant_end(text, length),
     }
 }
 
 /// One byte more, if it is the quote that ends a character constant.
-fn closed(text: &[u8], count: usize) -> Option<usize>
+fn constant_end(text: &[u8], count: usize) -> Option<usize>
     requires { count ≤ length text.now }
     ensures { result ≡ constant_end (Some count) text.now }
 {
-    if begins(behind(text, count), 39) {
+    if begins(rest_from(text, count), 39) {
         Some(count + 1)
     } else {
         None
     }
 }
 
-fn string_end(text: &[u8]) -> Option<usize>
+fn string_length(text: &[u8]) -> Option<usize>
     ensures { result ≡ string_length text.now }
 {
     let mut at = 0;
@@ -155,7 +155,7 @@ fn string_end(text: &[u8]) -> Option<usize>
         if text[at] == 34 {
             return Some(at + 1);
         }
-        match character(34, behind(text, at)) {
+        match character_length(34, rest_from(text, at)) {
             None => return None,
             Some(count) => at += count,
         }

@@ -13,7 +13,7 @@ use porch_tree::Mark;
 pub fn mark_of(first: u8, rest: &[u8]) -> Option<Mark>
     ensures { result ≡ mark_in_front (first ∷ rest.now) }
 {
-    by_byte(first, rest)
+    mark_by_byte(first, rest)
 }
 
 /// How many bytes spell a mark.
@@ -68,7 +68,7 @@ pub fn mark_length(mark: Mark) -> usize
     }
 }
 
-fn by_byte(first: u8, rest: &[u8]) -> Option<Mark>
+fn mark_by_byte(first: u8, rest: &[u8]) -> Option<Mark>
     ensures { result ≡ mark_by_byte first rest.now }
 {
     match first {
@@ -79,19 +79,19 @@ fn by_byte(first: u8, rest: &[u8]) -> Option<Mark>
         b'{' => Some(Mark::OpenBrace),
         b'}' => Some(Mark::CloseBrace),
         b'.' => Some(Mark::Dot),
-        b'-' => from_minus(rest),
-        b'+' => from_plus(rest),
-        b'&' => from_ampersand(rest),
-        b'*' => from_star(rest),
+        b'-' => mark_minus(rest),
+        b'+' => mark_plus(rest),
+        b'&' => mark_ampersand(rest),
+        b'*' => mark_star(rest),
         b'~' => Some(Mark::Tilde),
-        b'!' => from_exclamation(rest),
-        b'/' => from_slash(rest),
-        b'%' => from_percent(rest),
-        b'<' => from_less(rest),
-        b'>' => from_greater(rest),
-        b'=' => from_equal(rest),
-        b'^' => from_caret(rest),
-        b'|' => from_bar(rest),
+        b'!' => mark_exclamation(rest),
+        b'/' => mark_slash(rest),
+        b'%' => mark_percent(rest),
+        b'<' => mark_less(rest),
+        b'>' => mark_greater(rest),
+        b'=' => mark_equal(rest),
+        b'^' => mark_caret(rest),
+        b'|' => mark_bar(rest),
         b'?' => Some(Mark::Question),
         b':' => Some(Mark::Colon),
         b';' => Some(Mark::Semicolon),
@@ -100,7 +100,7 @@ fn by_byte(first: u8, rest: &[u8]) -> Option<Mark>
     }
 }
 
-fn from_minus(rest: &[u8]) -> Option<Mark>
+fn mark_minus(rest: &[u8]) -> Option<Mark>
     ensures { result ≡ mark_minus rest.now }
 {
     if begins(rest, b'>') {
@@ -114,7 +114,7 @@ fn from_minus(rest: &[u8]) -> Option<Mark>
     }
 }
 
-fn from_plus(rest: &[u8]) -> Option<Mark>
+fn mark_plus(rest: &[u8]) -> Option<Mark>
     ensures { result ≡ mark_plus rest.now }
 {
     if begins(rest, b'+') {
@@ -126,7 +126,7 @@ fn from_plus(rest: &[u8]) -> Option<Mark>
     }
 }
 
-fn from_ampersand(rest: &[u8]) -> Option<Mark>
+fn mark_ampersand(rest: &[u8]) -> Option<Mark>
     ensures { result ≡ mark_ampersand rest.now }
 {
     if begins(rest, b'&') {
@@ -138,7 +138,7 @@ fn from_ampersand(rest: &[u8]) -> Option<Mark>
     }
 }
 
-fn from_star(rest: &[u8]) -> Option<Mark>
+fn mark_star(rest: &[u8]) -> Option<Mark>
     ensures { result ≡ mark_star rest.now }
 {
     if begins(rest, b'=') {
@@ -148,7 +148,7 @@ fn from_star(rest: &[u8]) -> Option<Mark>
     }
 }
 
-fn from_exclamation(rest: &[u8]) -> Option<Mark>
+fn mark_exclamation(rest: &[u8]) -> Option<Mark>
     ensures { result ≡ mark_exclamation rest.now }
 {
     if begins(rest, b'=') {
@@ -158,7 +158,7 @@ fn from_exclamation(rest: &[u8]) -> Option<Mark>
     }
 }
 
-fn from_slash(rest: &[u8]) -> Option<Mark>
+fn mark_slash(rest: &[u8]) -> Option<Mark>
     ensures { result ≡ mark_slash rest.now }
 {
     if begins(rest, b'=') {
@@ -168,7 +168,7 @@ fn from_slash(rest: &[u8]) -> Option<Mark>
     }
 }
 
-fn from_percent(rest: &[u8]) -> Option<Mark>
+fn mark_percent(rest: &[u8]) -> Option<Mark>
     ensures { result ≡ mark_percent rest.now }
 {
     if begins(rest, b'=') {
@@ -178,7 +178,7 @@ fn from_percent(rest: &[u8]) -> Option<Mark>
     }
 }
 
-fn from_less(rest: &[u8]) -> Option<Mark>
+fn mark_less(rest: &[u8]) -> Option<Mark>
     ensures { result ≡ mark_less rest.now }
 {
     if begins_two(rest, b'<', b'=') {
@@ -192,7 +192,7 @@ fn from_less(rest: &[u8]) -> Option<Mark>
     }
 }
 
-fn from_greater(rest: &[u8]) -> Option<Mark>
+fn mark_greater(rest: &[u8]) -> Option<Mark>
     ensures { result ≡ mark_greater rest.now }
 {
     if begins_two(rest, b'>', b'=') {
@@ -206,7 +206,7 @@ fn from_greater(rest: &[u8]) -> Option<Mark>
     }
 }
 
-fn from_equal(rest: &[u8]) -> Option<Mark>
+fn mark_equal(rest: &[u8]) -> Option<Mark>
     ensures { result ≡ mark_equal rest.now }
 {
     if begins(rest, b'=') {
@@ -216,7 +216,7 @@ fn from_equal(rest: &[u8]) -> Option<Mark>
     }
 }
 
-fn from_caret(rest: &[u8]) -> Option<Mark>
+fn mark_caret(rest: &[u8]) -> Option<Mark>
     ensures { result ≡ mark_caret rest.now }
 {
     if begins(rest, b'=') {
@@ -226,7 +226,7 @@ fn from_caret(rest: &[u8]) -> Option<Mark>
     }
 }
 
-fn from_bar(rest: &[u8]) -> Option<Mark>
+fn mark_bar(rest: &[u8]) -> Option<Mark>
     ensures { result ≡ mark_bar rest.now }
 {
     if begins(rest, b'|') {

@@ -10,11 +10,11 @@ pub returns-in-End-clause-read : goal.returns-in-End-clause-read
 returns-in-End-clause-read c = (
   c.lexemes.invariant.1,
   finished c.args.text.now c.lexemes.tokens.items c.lexemes.fresh c.lexemes.at c.lexemes.invariant.0
-      (sym c.in-End.is ∙ c.next_lexeme.ensures ∙ ap (lexeme_at c.lexemes.fresh) c.behind.ensures),
+      (sym c.in-End.is ∙ c.next_lexeme.ensures ∙ ap (lexeme_at c.lexemes.fresh) c.rest_from.ensures),
 )
 
 gap_is : (c : goal.In-Gap) → lexeme.Gap c.in-Gap.length c.in-Gap.next ≡ lexeme_at c.lexemes.fresh (drop c.lexemes.at c.args.text.now)
-gap_is c = sym c.in-Gap.is ∙ c.next_lexeme.ensures ∙ ap (lexeme_at c.lexemes.fresh) c.behind.ensures
+gap_is c = sym c.in-Gap.is ∙ c.next_lexeme.ensures ∙ ap (lexeme_at c.lexemes.fresh) c.rest_from.ensures
 
 gap_on : (c : goal.In-Gap) → GoesOn c.args.text.now c.lexemes.at c.in-Gap.length
 gap_on c = gap_goes_on c.args.text.now c.lexemes.fresh c.lexemes.at c.in-Gap.length c.in-Gap.next c.lexemes.invariant.0.within (gap_is c)
@@ -34,18 +34,18 @@ lexemes-preserved-in-Gap c = (
 pub overflow_add-to : goal.overflow_add-to
 overflow_add-to c =
     let on = (token_goes_on c.args.text.now c.lexemes.fresh c.lexemes.at c.in-Token.length c.in-Token.kind c.lexemes.invariant.0.within
-    (sym c.in-Token.is ∙ c.next_lexeme.ensures ∙ ap (lexeme_at c.lexemes.fresh) c.behind.ensures)).1 in
+    (sym c.in-Token.is ∙ c.next_lexeme.ensures ∙ ap (lexeme_at c.lexemes.fresh) c.rest_from.ensures)).1 in
     search (rules, on)
 
 pub overflow_cast-to : goal.overflow_cast-to
 overflow_cast-to c =
     let on = (token_goes_on c.args.text.now c.lexemes.fresh c.lexemes.at c.in-Token.length c.in-Token.kind c.lexemes.invariant.0.within
-    (sym c.in-Token.is ∙ c.next_lexeme.ensures ∙ ap (lexeme_at c.lexemes.fresh) c.behind.ensures)).1 in
+    (sym c.in-Token.is ∙ c.next_lexeme.ensures ∙ ap (lexeme_at c.lexemes.fresh) c.rest_from.ensures)).1 in
     let few = limited (length c.args.text.now) c.lexemes.invariant.1 in
     search (rules, on, few)
 
 token_is : (c : goal.In_ok-push-in-Token) → lexeme.Token c.in-Token.kind c.in-Token.length ≡ lexeme_at c.lexemes.fresh (drop c.lexemes.at c.args.text.now)
-token_is c = sym c.in-Token.is ∙ c.next_lexeme.ensures ∙ ap (lexeme_at c.lexemes.fresh) c.behind.ensures
+token_is c = sym c.in-Token.is ∙ c.next_lexeme.ensures ∙ ap (lexeme_at c.lexemes.fresh) c.rest_from.ensures
 
 token_on : (c : goal.In_ok-push-in-Token) → GoesOn c.args.text.now c.lexemes.at c.in-Token.length
 token_on c = token_goes_on c.args.text.now c.lexemes.fresh c.lexemes.at c.in-Token.length c.in-Token.kind c.lexemes.invariant.0.within (token_is c)
@@ -66,5 +66,5 @@ returns-in-Fault-clause-refused c =
     inr (
       c.lexemes.invariant.1,
       refused c.args.text.now c.lexemes.tokens.items c.lexemes.fresh c.lexemes.at c.in-Fault.rule c.lexemes.invariant.0
-          (sym c.in-Fault.is ∙ c.next_lexeme.ensures ∙ ap (lexeme_at c.lexemes.fresh) c.behind.ensures),
+          (sym c.in-Fault.is ∙ c.next_lexeme.ensures ∙ ap (lexeme_at c.lexemes.fresh) c.rest_from.ensures),
     )

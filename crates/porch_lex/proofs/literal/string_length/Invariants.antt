@@ -1,6 +1,6 @@
 use Rattle.std.proofs.Common.{◌≡◌, ◌-◌, ◌≤◌, length, drop}
 use Rattle.porch_lex.specs.Literals.{counted_more, string_from}
-use Rattle.porch_lex.proofs.literal.string_end.Given as goal
+use Rattle.porch_lex.proofs.literal.string_length.Given as goal
 
 -- What the literal comes to from this place on.
 abbrev pub invariant-loop-at : goal.invariant-loop-at

@@ -1,7 +1,7 @@
 use Rattle.std.proofs.Common.{◌≡◌, ◌-◌, ◌≤◌, length, drop}
 use Rattle.porch_lex.specs.Literals.{counted_more}
 use Rattle.porch_lex.specs.Gaps.{comment_length}
-use Rattle.porch_lex.proofs.gap.comment_end.Given as goal
+use Rattle.porch_lex.proofs.gap.comment_length.Given as goal
 
 -- No comment ends before this place.
 abbrev pub invariant-loop-at : goal.invariant-loop-at
