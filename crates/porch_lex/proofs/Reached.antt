@@ -10,7 +10,7 @@ use Rattle.porch_lex.specs.Lexemes.{lexeme_at}
 use Rattle.porch_lex.specs.Tokens.{source_limit, token_at, refusal_at, Lexes, done, gap, token, Faults, broken, after_gap, after_token}
 use Rattle.porch_lex.proofs.Within.{FitsIn, lexeme_fits}
 
--- The tokens before a place were found: what the text comes to from there, it comes to behind them.
+-- The tokens before a place were found: what the text comes to from there, it comes to after them.
 pub record Reached (text : List ℕ) (found : List Token) (fresh : Bool) (at : ℕ) : Type 0 where
   pub within : at ≤ length text
   pub tokens : (ts : List Token) → Lexes fresh at (drop at text) ts → Lexes true 0 text (found ++ ts)

@@ -1,4 +1,4 @@
--- A literal is the same where the text ends behind it.
+-- A literal is the same where the text ends after it.
 use Rattle.std.proofs.Common.{◌≡◌, ℕ, zero, suc, ◌+◌, ◌-◌, ◌<◌, ◌≤◌, ◌==◌, nat_eq, nat_lt, Bool, true, false, if◌then◌else◌, cond, List, [], ◌∷◌, length, take, drop, min, Option, Some, None, unwrap_or, refl, sym, ap, ◌∙◌, arith}
 use Rattle.std.specs.List.{starts_with, prefix_len, list_any}
 use lib.Pointwise.{pointwise}

@@ -121,7 +121,7 @@ at_test : (b : Bool) (x y : Lexeme) (m : ℕ) → (b ≡ true → FitsIn x m) �
 at_test true x y m f g = f refl
 at_test false x y m f g = g refl
 
--- one byte, and those of a word behind it
+-- one byte, and those of a word after it
 word_fits : (c : ℕ) (cs : List ℕ) → (0 < length (c ∷ take (prefix_len is_word cs) cs)) × (length (c ∷ take (prefix_len is_word cs) cs) ≤ length (c ∷ cs))
 word_fits c cs =
     let few = length-take-le (prefix_len is_word cs) cs (prefix_len-le-length is_word cs) in

@@ -19,7 +19,7 @@ constant_base [] = 10
 constant_base (a ∷ []) = if a == 48 then 8 else 10
 constant_base (a ∷ b ∷ cs) = if a == 48 then (if is_x b then 16 else 8) else 10
 
--- its digits with what stands behind them
+-- its digits with what stands after them
 abbrev pub constant_body : List ℕ → List ℕ
 constant_body cs = if constant_base cs == 16 then drop 2 cs else cs
 

@@ -26,15 +26,15 @@ quoted cs = 34 ∷ (cs ++ 34 ∷ [])
 abbrev pub headers : List (List ℕ)
 headers = codes "<stdio.h>" ∷ codes "<stdlib.h>" ∷ quoted (codes "porch.h") ∷ []
 
-abbrev pub behind_blanks : List ℕ → List ℕ
-behind_blanks cs = drop (prefix_len is_blank cs) cs
+abbrev pub after_blanks : List ℕ → List ℕ
+after_blanks cs = drop (prefix_len is_blank cs) cs
 
 -- this header, and then only spaces and tabs
 abbrev pub is_header_line : List ℕ → List ℕ → Bool
 is_header_line cs header = starts_with nat_eq cs header && list_all is_blank (drop (length header) cs)
 
--- a line behind its `#`: the word include and one of the headers, with spaces and tabs round both
+-- a line after its `#`: the word include and one of the headers, with spaces and tabs round both
 abbrev pub is_include : List ℕ → Bool
 is_include cs =
-    starts_with nat_eq (behind_blanks cs) (codes "include")
-    && list_any (is_header_line (behind_blanks (drop 7 (behind_blanks cs)))) headers
+    starts_with nat_eq (after_blanks cs) (codes "include")
+    && list_any (is_header_line (after_blanks (drop 7 (after_blanks cs)))) headers

@@ -26,7 +26,7 @@ word_kind (Some k) = kind.Keyword k
 abbrev pub word_lexeme : List ℕ → Lexeme
 word_lexeme cs = Token (word_kind (keyword_of cs)) (length cs)
 
--- A constant goes as far as letters, digits and underscores do, and no dot may stand behind it.
+-- A constant goes as far as letters, digits and underscores do, and no dot may stand after it.
 abbrev pub constant_lexeme : List ℕ → List ℕ → Lexeme
 constant_lexeme cs rest =
     if starts_with nat_eq rest (codes ".") || not (is_constant cs) then Fault rule.Word
@@ -43,7 +43,7 @@ abbrev pub comment_lexeme : Option ℕ → Lexeme
 comment_lexeme None = Fault rule.Word
 comment_lexeme (Some n) = Gap (n + 2) false
 
--- The line behind a `#` that is the first in it but for white space.
+-- The line after a `#` that is the first in it but for white space.
 abbrev pub directive_lexeme : List ℕ → Lexeme
 directive_lexeme cs =
     if is_include (take (line_length cs) cs) then Gap (line_length cs + 1) false

@@ -5,7 +5,7 @@ use Rattle.std.specs.Option.{option_map}
 use Rattle.porch_lex.specs.Characters.{is_printed, is_digit_of}
 use Rattle.porch_lex.specs.Constants.{number_in}
 
--- the letters that stand behind a backslash for one byte, the backslash, the quotes and the question mark
+-- the letters that stand after a backslash for one byte, the backslash, the quotes and the question mark
 abbrev pub simple_escapes : List ℕ
 simple_escapes = codes "ntrabfv" ++ 92 ∷ 39 ∷ 34 ∷ 63 ∷ []
 
@@ -20,7 +20,7 @@ octal_length cs = min 3 (prefix_len (is_digit_of 8) cs)
 abbrev pub octal_escape : List ℕ → Option ℕ
 octal_escape cs = if_byte (number_in 8 (take (octal_length cs) cs)) (octal_length cs)
 
--- hexadecimal digits behind the x
+-- hexadecimal digits after the x
 abbrev pub hexadecimal_escape : List ℕ → Option ℕ
 hexadecimal_escape cs =
     if nat_lt 0 (prefix_len (is_digit_of 16) cs)
@@ -47,7 +47,7 @@ character_length quote (c ∷ cs) =
     else if is_printed c && not (c == quote) then Some 1
     else None
 
--- A character constant behind its first quote: one character and the other quote.
+-- What follows the first quote of a character constant: one character and the other quote.
 abbrev pub constant_end : Option ℕ → List ℕ → Option ℕ
 constant_end None cs = None
 constant_end (Some n) cs = if starts_with nat_eq (drop n cs) (39 ∷ []) then Some (n + 1) else None
@@ -59,7 +59,7 @@ abbrev pub string_more : Option ℕ → (ℕ → Option ℕ) → Option ℕ
 string_more None go = None
 string_more (Some n) go = counted_more 1 (go (n - 1))
 
--- A string literal behind its first quote, from behind k bytes on: characters, and the other quote.
+-- What follows the first quote of a string literal, after k bytes more: characters, and the other quote.
 abbrev pub string_from : List ℕ → (k : ℕ) → Option ℕ
 string_from [] k = None
 string_from (c ∷ cs) (suc k) = counted_more 1 (string_from cs k)

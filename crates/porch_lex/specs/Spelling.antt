@@ -20,7 +20,7 @@ abbrev pub begins_with_digit : List ℕ → Bool
 begins_with_digit [] = false
 begins_with_digit (c ∷ cs) = is_digit c
 
--- a quote, and behind it what reaches exactly to the end
+-- a quote, and after it what reaches exactly to the end
 abbrev pub IsLiteral : (quote : ℕ) → (List ℕ → Option ℕ) → List ℕ → Type 0
 IsLiteral quote reach [] = ⊥
 IsLiteral quote reach (c ∷ cs) = (c ≡ quote) × (reach cs ≡ Some (length cs))

@@ -91,7 +91,7 @@ pub fn are_blanks(text: &[u8]) -> bool
 }
 
 /// What follows so many bytes.
-#[tactic(auto, using(crate::proofs::Slices::all_behind))]
+#[tactic(auto, using(crate::proofs::Slices::rest_is))]
 pub fn rest_from(text: &[u8], at: usize) -> &[u8]
     requires { at ≤ length text.now }
     ensures { result.now ≡ drop at text.now }

@@ -2,7 +2,7 @@
 
 ghost use Rattle.std.specs.Prelude.{◌≡◌, ◌≤◌, ◌+◌, nat_eq, length};
 ghost use Rattle.std.specs.List.{list_any, starts_with};
-ghost use Rattle.porch_lex.specs.Gaps.{is_comment_end, comment_length, headers, behind_blanks, is_header_line, is_include};
+ghost use Rattle.porch_lex.specs.Gaps.{is_comment_end, comment_length, headers, after_blanks, is_header_line, is_include};
 ghost use Rattle.porch_lex.specs.Lexemes.{comment_lexeme, directive_lexeme};
 
 use crate::character::{are_blanks, begins, blank_length, front_of, line_length, rest_from};
@@ -33,7 +33,7 @@ fn comment_length(text: &[u8]) -> Option<usize>
     None
 }
 
-/// What begins with `/*`: the text behind it.
+/// What begins with `/*`: the text after it.
 pub fn comment_lexeme(text: &[u8]) -> Lexeme
     ensures { result ≡ comment_lexeme (comment_length text.now) }
 {
@@ -43,8 +43,8 @@ pub fn comment_lexeme(text: &[u8]) -> Lexeme
     }
 }
 
-fn behind_blanks(text: &[u8]) -> &[u8]
-    ensures { result.now ≡ behind_blanks text.now }
+fn after_blanks(text: &[u8]) -> &[u8]
+    ensures { result.now ≡ after_blanks text.now }
 {
     rest_from(text, blank_length(text))
 }
@@ -71,11 +71,11 @@ fn is_header(text: &[u8]) -> bool
 fn is_include(line: &[u8]) -> bool
     ensures { result ≡ is_include line.now }
 {
-    let word = behind_blanks(line);
-    begins_with(word, "include") && is_header(behind_blanks(rest_from(word, 7)))
+    let word = after_blanks(line);
+    begins_with(word, "include") && is_header(after_blanks(rest_from(word, 7)))
 }
 
-/// What begins with a `#` that is the first in its line: the text behind it.
+/// What begins with a `#` that is the first in its line: the text after it.
 pub fn directive_lexeme(text: &[u8]) -> Lexeme
     ensures { result ≡ directive_lexeme text.now }
 {

@@ -13,7 +13,7 @@ use crate::lexeme::Lexeme;
 use crate::refusal::Rule;
 use crate::token::TokenKind;
 
-/// What a character constant is, behind its first quote.
+/// What a character constant is, after its first quote.
 pub fn character_lexeme(text: &[u8]) -> Lexeme
     ensures { result ≡ literal_lexeme Character (character_constant_length text.now) }
 {
@@ -23,7 +23,7 @@ pub fn character_lexeme(text: &[u8]) -> Lexeme
     }
 }
 
-/// What a string literal is, behind its first quote.
+/// What a string literal is, after its first quote.
 pub fn string_lexeme(text: &[u8]) -> Lexeme
     ensures { result ≡ literal_lexeme Text (string_length text.now) }
 {
@@ -33,7 +33,7 @@ pub fn string_lexeme(text: &[u8]) -> Lexeme
     }
 }
 
-/// Whether one of these bytes stands for another behind a backslash.
+/// Whether one of these bytes stands for another after a backslash.
 fn is_simple_escape(c: u8) -> bool
     ensures { result ≡ list_any (λ e. e == c) simple_escapes }
 {

@@ -59,7 +59,7 @@ pub fn literals_hold_characters()
     ensures newline { lexeme_at false (codes "\"a\nb\"") ≡ Fault Word }
 {}
 
-/// Comments, and what may stand behind a `#`.
+/// Comments, and what may stand after a `#`.
 pub fn gaps_have_no_tokens()
     ensures comment { lexeme_at true (codes "/*/ **/x") ≡ Gap 7 false }
     ensures unended { lexeme_at true (codes "/*/") ≡ Fault Word }

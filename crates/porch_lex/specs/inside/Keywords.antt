@@ -4,19 +4,19 @@ use Rattle.std.specs.Str.{bytes_eq}
 use Rattle.porch_tree.specs.declared.word.Keyword.{Keyword}
 use Rattle.porch_tree.specs.declared.word.Keyword.TheVariants as key
 
--- behind the letter a
+-- after the letter a
 abbrev pub keyword_a : List ℕ → Option Keyword
 keyword_a cs =
     if bytes_eq cs (codes "uto") then Some key.Auto
     else None
 
--- behind the letter b
+-- after the letter b
 abbrev pub keyword_b : List ℕ → Option Keyword
 keyword_b cs =
     if bytes_eq cs (codes "reak") then Some key.Break
     else None
 
--- behind the letter c
+-- after the letter c
 abbrev pub keyword_c : List ℕ → Option Keyword
 keyword_c cs =
     if bytes_eq cs (codes "ase") then Some key.Case
@@ -25,7 +25,7 @@ keyword_c cs =
     else if bytes_eq cs (codes "ontinue") then Some key.Continue
     else None
 
--- behind the letter d
+-- after the letter d
 abbrev pub keyword_d : List ℕ → Option Keyword
 keyword_d cs =
     if bytes_eq cs (codes "efault") then Some key.Default
@@ -33,7 +33,7 @@ keyword_d cs =
     else if bytes_eq cs (codes "ouble") then Some key.Double
     else None
 
--- behind the letter e
+-- after the letter e
 abbrev pub keyword_e : List ℕ → Option Keyword
 keyword_e cs =
     if bytes_eq cs (codes "lse") then Some key.Else
@@ -41,40 +41,40 @@ keyword_e cs =
     else if bytes_eq cs (codes "xtern") then Some key.Extern
     else None
 
--- behind the letter f
+-- after the letter f
 abbrev pub keyword_f : List ℕ → Option Keyword
 keyword_f cs =
     if bytes_eq cs (codes "loat") then Some key.Float
     else if bytes_eq cs (codes "or") then Some key.For
     else None
 
--- behind the letter g
+-- after the letter g
 abbrev pub keyword_g : List ℕ → Option Keyword
 keyword_g cs =
     if bytes_eq cs (codes "oto") then Some key.Goto
     else None
 
--- behind the letter i
+-- after the letter i
 abbrev pub keyword_i : List ℕ → Option Keyword
 keyword_i cs =
     if bytes_eq cs (codes "f") then Some key.If
     else if bytes_eq cs (codes "nt") then Some key.Int
     else None
 
--- behind the letter l
+-- after the letter l
 abbrev pub keyword_l : List ℕ → Option Keyword
 keyword_l cs =
     if bytes_eq cs (codes "ong") then Some key.Long
     else None
 
--- behind the letter r
+-- after the letter r
 abbrev pub keyword_r : List ℕ → Option Keyword
 keyword_r cs =
     if bytes_eq cs (codes "egister") then Some key.Register
     else if bytes_eq cs (codes "eturn") then Some key.Return
     else None
 
--- behind the letter s
+-- after the letter s
 abbrev pub keyword_s : List ℕ → Option Keyword
 keyword_s cs =
     if bytes_eq cs (codes "hort") then Some key.Short
@@ -85,27 +85,27 @@ keyword_s cs =
     else if bytes_eq cs (codes "witch") then Some key.Switch
     else None
 
--- behind the letter t
+-- after the letter t
 abbrev pub keyword_t : List ℕ → Option Keyword
 keyword_t cs =
     if bytes_eq cs (codes "ypedef") then Some key.Typedef
     else None
 
--- behind the letter u
+-- after the letter u
 abbrev pub keyword_u : List ℕ → Option Keyword
 keyword_u cs =
     if bytes_eq cs (codes "nion") then Some key.Union
     else if bytes_eq cs (codes "nsigned") then Some key.Unsigned
     else None
 
--- behind the letter v
+-- after the letter v
 abbrev pub keyword_v : List ℕ → Option Keyword
 keyword_v cs =
     if bytes_eq cs (codes "oid") then Some key.Void
     else if bytes_eq cs (codes "olatile") then Some key.Volatile
     else None
 
--- behind the letter w
+-- after the letter w
 abbrev pub keyword_w : List ℕ → Option Keyword
 keyword_w cs =
     if bytes_eq cs (codes "hile") then Some key.While
