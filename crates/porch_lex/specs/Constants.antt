@@ -51,14 +51,20 @@ number_in base = fold (λ n c. base * n + digit_value c) 0
 abbrev pub constant_value : List ℕ → ℕ
 constant_value cs = number_in (constant_base cs) (constant_digits cs)
 
--- The greatest value of the type that the base and the suffix give: int, unsigned int, long or unsigned
--- long, in 32 bits.
+-- of int, and of unsigned int; of long and unsigned long too, where these have 32 bits
+abbrev pub greatest_int : ℕ
+greatest_int = 2147483647
+
+abbrev pub greatest_unsigned : ℕ
+greatest_unsigned = 4294967295
+
+-- The greatest value of the type that the base and the suffix give.
 abbrev pub greatest_value : (base : ℕ) → (suffix : List ℕ) → ℕ
 greatest_value base suffix =
-    if list_any is_u suffix then 4294967295
-    else if list_any is_l suffix then 2147483647
-    else if base == 10 then 2147483647
-    else 4294967295
+    if list_any is_u suffix then greatest_unsigned
+    else if list_any is_l suffix then greatest_int
+    else if base == 10 then greatest_int
+    else greatest_unsigned
 
 abbrev pub is_wide : List ℕ → Bool
 is_wide cs = nat_lt (greatest_value (constant_base cs) (constant_suffix cs)) (constant_value cs)

@@ -7,25 +7,25 @@ ghost use Rattle.porch_lex.specs.Characters.{is_space, is_blank, is_newline, is_
 pub fn is_space(c: u8) -> bool
     ensures { result ≡ is_space c }
 {
-    c == 32 || (9 <= c && c <= 13)
+    c == b' ' || (b'\t' <= c && c <= b'\r')
 }
 
 pub fn is_blank(c: u8) -> bool
     ensures { result ≡ is_blank c }
 {
-    c == 32 || c == 9
+    c == b' ' || c == b'\t'
 }
 
 pub fn is_digit(c: u8) -> bool
     ensures { result ≡ is_digit c }
 {
-    48 <= c && c <= 57
+    b'0' <= c && c <= b'9'
 }
 
 pub fn is_letter(c: u8) -> bool
     ensures { result ≡ is_letter c }
 {
-    (65 <= c && c <= 90) || (97 <= c && c <= 122) || c == 95
+    (b'A' <= c && c <= b'Z') || (b'a' <= c && c <= b'z') || c == b'_'
 }
 
 pub fn is_word(c: u8) -> bool
@@ -37,7 +37,7 @@ pub fn is_word(c: u8) -> bool
 pub fn is_printed(c: u8) -> bool
     ensures { result ≡ is_printed c }
 {
-    32 <= c && c <= 126
+    b' ' <= c && c <= b'~'
 }
 
 /// The value of a digit, or 16.
@@ -46,11 +46,11 @@ pub fn digit_value(c: u8) -> u8
     ensures small { result ≤ 16 }
 {
     if is_digit(c) {
-        c - 48
-    } else if 97 <= c && c <= 102 {
-        c - 87
-    } else if 65 <= c && c <= 70 {
-        c - 55
+        c - b'0'
+    } else if b'a' <= c && c <= b'f' {
+        c - b'a' + 10
+    } else if b'A' <= c && c <= b'F' {
+        c - b'A' + 10
     } else {
         16
     }
@@ -149,7 +149,7 @@ pub fn line_length(text: &[u8]) -> usize
     ensures within { result ≤ length text.now }
 {
     let mut at = 0;
-    while at < text.len() && text[at] != 10 {
+    while at < text.len() && text[at] != b'\n' {
         at += 1;
     }
     at

@@ -10,22 +10,62 @@ use crate::lexeme::Lexeme;
 use crate::refusal::Rule;
 use crate::token::TokenKind;
 
+/// The greatest `int`, and the greatest `long` where it has 32 bits.
+const GREATEST_INT: u32 = 2_147_483_647;
+
+/// The greatest `unsigned int`, and the greatest `unsigned long` where it has 32 bits.
+const GREATEST_UNSIGNED: u32 = 4_294_967_295;
+
+/// What a word is that begins with a digit, and what follows it.
+pub fn constant_lexeme(constant: &[u8], rest: &[u8]) -> Lexeme
+    ensures { result ≡ constant_lexeme constant.now rest.now }
+{
+    let base = base_of(constant);
+    let body = body_of(constant, base);
+    let count = digit_length(base, body);
+    let digits = front_of(body, count);
+    let tail = rest_from(body, count);
+    if begins(rest, b'.') || !(0 < count && is_suffix(tail)) {
+        Lexeme::Fault(Rule::Word)
+    } else if exceeds(base, digits, greatest_value(base, tail)) {
+        Lexeme::Fault(Rule::WideConstant)
+    } else {
+        Lexeme::Token(TokenKind::Whole, constant.len())
+    }
+}
+
+/// Whether digits stand for a number above a limit.
+pub fn exceeds(base: u8, digits: &[u8], limit: u32) -> bool
+    requires low { 1 ≤ base }
+    requires high { base ≤ 16 }
+    ensures { result ≡ nat_lt limit (number_in base digits.now) }
+{
+    let mut number: u64 = 0;
+    for c in digits {
+        number = base as u64 * number + digit_value(*c) as u64;
+        if number > limit as u64 {
+            return true;
+        }
+    }
+    false
+}
+
 fn is_x(c: u8) -> bool
     ensures { result ≡ is_x c }
 {
-    c == 120 || c == 88
+    c == b'x' || c == b'X'
 }
 
 fn is_u(c: u8) -> bool
     ensures { result ≡ is_u c }
 {
-    c == 117 || c == 85
+    c == b'u' || c == b'U'
 }
 
 fn is_l(c: u8) -> bool
     ensures { result ≡ is_l c }
 {
-    c == 108 || c == 76
+    c == b'l' || c == b'L'
 }
 
 fn base_of(constant: &[u8]) -> u8
@@ -33,9 +73,9 @@ fn base_of(constant: &[u8]) -> u8
 {
     match constant {
         [] => 10,
-        [only] => { if *only == 48 { 8 } else { 10 } }
+        [only] => { if *only == b'0' { 8 } else { 10 } }
         [first, second, ..] => {
-            if *first == 48 {
+            if *first == b'0' {
                 if is_x(*second) { 16 } else { 8 }
             } else {
                 10
@@ -83,46 +123,12 @@ fn greatest_value(base: u8, suffix: &[u8]) -> u32
     ensures { result ≡ greatest_value base suffix.now }
 {
     if has_u(suffix) {
-        4294967295
+        GREATEST_UNSIGNED
     } else if has_l(suffix) {
-        2147483647
+        GREATEST_INT
     } else if base == 10 {
-        2147483647
+        GREATEST_INT
     } else {
-        4294967295
-    }
-}
-
-/// Whether digits stand for a number above a limit.
-pub fn exceeds(base: u8, digits: &[u8], limit: u32) -> bool
-    requires low { 1 ≤ base }
-    requires high { base ≤ 16 }
-    ensures { result ≡ nat_lt limit (number_in base digits.now) }
-{
-    let mut number: u64 = 0;
-    for c in digits {
-        number = base as u64 * number + digit_value(*c) as u64;
-        if number > limit as u64 {
-            return true;
-        }
-    }
-    false
-}
-
-/// What a word is that begins with a digit, and what follows it.
-pub fn constant_lexeme(constant: &[u8], rest: &[u8]) -> Lexeme
-    ensures { result ≡ constant_lexeme constant.now rest.now }
-{
-    let base = base_of(constant);
-    let body = body_of(constant, base);
-    let count = digit_length(base, body);
-    let digits = front_of(body, count);
-    let tail = rest_from(body, count);
-    if begins(rest, 46) || !(0 < count && is_suffix(tail)) {
-        Lexeme::Fault(Rule::Word)
-    } else if exceeds(base, digits, greatest_value(base, tail)) {
-        Lexeme::Fault(Rule::WideConstant)
-    } else {
-        Lexeme::Token(TokenKind::Whole, constant.len())
+        GREATEST_UNSIGNED
     }
 }

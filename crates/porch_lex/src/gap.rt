@@ -9,13 +9,35 @@ use crate::character::{are_blanks, begins, blank_length, front_of, line_length, 
 use crate::lexeme::Lexeme;
 use crate::refusal::Rule;
 
+/// What begins with `/*`: the text after it.
+pub fn comment_lexeme(text: &[u8]) -> Lexeme
+    ensures { result ≡ comment_lexeme (comment_length text.now) }
+{
+    match comment_length(text) {
+        None => Lexeme::Fault(Rule::Word),
+        Some(length) => Lexeme::Gap(length + 2, false),
+    }
+}
+
+/// What begins with a `#` that is the first in its line: the text after it.
+pub fn directive_lexeme(text: &[u8]) -> Lexeme
+    ensures { result ≡ directive_lexeme text.now }
+{
+    let length = line_length(text);
+    if is_include(front_of(text, length)) {
+        Lexeme::Gap(length + 1, false)
+    } else {
+        Lexeme::Fault(Rule::Outside)
+    }
+}
+
 /// Whether the text ends a comment at its beginning.
 fn is_comment_end(text: &[u8]) -> bool
     ensures { result ≡ is_comment_end text.now }
 {
     match text {
         [] => false,
-        [first, rest @ ..] => *first == 42 && begins(rest, 47),
+        [first, rest @ ..] => *first == b'*' && begins(rest, b'/'),
     }
 }
 
@@ -31,16 +53,6 @@ fn comment_length(text: &[u8]) -> Option<usize>
         at += 1;
     }
     None
-}
-
-/// What begins with `/*`: the text after it.
-pub fn comment_lexeme(text: &[u8]) -> Lexeme
-    ensures { result ≡ comment_lexeme (comment_length text.now) }
-{
-    match comment_length(text) {
-        None => Lexeme::Fault(Rule::Word),
-        Some(length) => Lexeme::Gap(length + 2, false),
-    }
 }
 
 fn after_blanks(text: &[u8]) -> &[u8]
@@ -73,16 +85,4 @@ fn is_include(line: &[u8]) -> bool
 {
     let word = after_blanks(line);
     begins_with(word, "include") && is_header(after_blanks(rest_from(word, 7)))
-}
-
-/// What begins with a `#` that is the first in its line: the text after it.
-pub fn directive_lexeme(text: &[u8]) -> Lexeme
-    ensures { result ≡ directive_lexeme text.now }
-{
-    let length = line_length(text);
-    if is_include(front_of(text, length)) {
-        Lexeme::Gap(length + 1, false)
-    } else {
-        Lexeme::Fault(Rule::Outside)
-    }
 }

@@ -43,19 +43,19 @@ fn lexeme_from(fresh: bool, first: u8, rest: &[u8], text: &[u8]) -> Lexeme
     ensures { result ≡ lexeme_from fresh first rest.now }
 {
     if is_space(first) {
-        let next = fresh || first == 10;
+        let next = fresh || first == b'\n';
         Lexeme::Gap(1, next)
     } else if is_letter(first) {
         word_lexeme(first, rest)
     } else if is_digit(first) {
         number_lexeme(first, rest, text)
-    } else if first == 39 {
+    } else if first == b'\'' {
         character_lexeme(rest)
-    } else if first == 34 {
+    } else if first == b'"' {
         string_lexeme(rest)
-    } else if first == 47 && begins(rest, 42) {
+    } else if first == b'/' && begins(rest, b'*') {
         comment_lexeme(rest_from(rest, 1))
-    } else if first == 35 && fresh {
+    } else if first == b'#' && fresh {
         directive_lexeme(rest)
     } else {
         mark_lexeme(first, rest)

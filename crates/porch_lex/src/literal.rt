@@ -91,7 +91,7 @@ fn escape_length(text: &[u8]) -> Option<usize>
                 Some(1)
             } else if is_digit_of(8, *first) {
                 octal_escape(text)
-            } else if *first == 120 {
+            } else if *first == b'x' {
                 hexadecimal_escape(rest)
             } else {
                 None
@@ -115,7 +115,7 @@ fn character_length(quote: u8, text: &[u8]) -> Option<usize>
     match text {
         [] => None,
         [first, rest @ ..] => {
-            if *first == 92 {
+            if *first == b'\\' {
                 after_backslash(rest)
             } else if is_printed(*first) && *first != quote {
                 Some(1)
@@ -129,7 +129,7 @@ fn character_length(quote: u8, text: &[u8]) -> Option<usize>
 fn character_constant_length(text: &[u8]) -> Option<usize>
     ensures { result ≡ character_constant_length text.now }
 {
-    match character_length(39, text) {
+    match character_length(b'\'', text) {
         None => None,
         Some(length) => constant_end(text, length),
     }
@@ -140,7 +140,7 @@ fn constant_end(text: &[u8], count: usize) -> Option<usize>
     requires { count ≤ length text.now }
     ensures { result ≡ constant_end (Some count) text.now }
 {
-    if begins(rest_from(text, count), 39) {
+    if begins(rest_from(text, count), b'\'') {
         Some(count + 1)
     } else {
         None
@@ -152,10 +152,10 @@ fn string_length(text: &[u8]) -> Option<usize>
 {
     let mut at = 0;
     while at < text.len() {
-        if text[at] == 34 {
+        if text[at] == b'"' {
             return Some(at + 1);
         }
-        match character_length(34, rest_from(text, at)) {
+        match character_length(b'"', rest_from(text, at)) {
             None => return None,
             Some(count) => at += count,
         }
