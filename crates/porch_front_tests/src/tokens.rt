@@ -1,6 +1,8 @@
 //! Worked texts for the lexer: tokens with their places, and where texts break a rule of tokens.
 
-use porch_lex::{Refusal, Rule, SOURCE_LIMIT, SourceFault, Token, TokenKind, lex};
+use porch_lex::{
+    Refusal, Rule, SOURCE_LIMIT, SourceFault, Token, TokenKind, character_of, lex, whole_of,
+};
 use porch_tree::{Keyword, Mark};
 use std::alloc::Global;
 use std::process::Abort;
@@ -216,4 +218,42 @@ fn the_size_of_a_source_comes_before_its_tokens(rt: HostRuntime) -> Result<(), F
     let large = spaces(rt.alloc(), SOURCE_LIMIT, b'@')?;
     expect_refused(&rt, rt.alloc(), large.as_slice(), 0, Rule::TooLarge);
     Ok(())
+}
+
+#[test]
+fn constants_and_characters_have_these_values(rt: HostRuntime) {
+    let wholes = [
+        ("0", 0),
+        ("17", 17),
+        ("017l", 15),
+        ("0x1FuL", 31),
+        ("2147483647", 2147483647),
+        ("037777777777", 4294967295),
+        ("0XFFFFFFFF", 4294967295),
+    ];
+    for (spelling, value) in wholes {
+        assert_eq!(rt; whole_of(spelling.as_bytes()), value, "{spelling}");
+    }
+    let characters = [
+        ("a'", 97),
+        ("\\n", 10),
+        ("\\t", 9),
+        ("\\r", 13),
+        ("\\a", 7),
+        ("\\b", 8),
+        ("\\f", 12),
+        ("\\v", 11),
+        ("\\\\", 92),
+        ("\\'", 39),
+        ("\\\"", 34),
+        ("\\?", 63),
+        ("\\0", 0),
+        ("\\377", 255),
+        ("\\0601", 48),
+        ("\\18", 1),
+        ("\\x00041g", 65),
+    ];
+    for (text, value) in characters {
+        assert_eq!(rt; character_of(text.as_bytes()), value, "{text}");
+    }
 }

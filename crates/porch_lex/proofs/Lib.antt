@@ -11,3 +11,4 @@ pub mod Rising
 pub mod Stable
 pub mod Spelled
 pub mod Longest
+pub mod Values

@@ -1,5 +1,5 @@
 -- Facts on constants.
-use Rattle.std.proofs.Common.{◌≡◌, ℕ, ◌+◌, ◌*◌, ◌<◌, ◌≤◌, nat_lt, true, List, [], ◌∷◌, length, get_or, drop, fold, refl, sym, ap, ◌∙◌, arith, add-one, drop-cons}
+use Rattle.std.proofs.Common.{◌≡◌, ℕ, ◌+◌, ◌*◌, ◌<◌, ◌≤◌, nat_lt, min, true, List, [], ◌∷◌, length, get_or, drop, fold, refl, sym, ap, ◌∙◌, arith, add-one, drop-cons}
 use Rattle.porch_lex.specs.Characters.{digit_value}
 use Rattle.porch_lex.specs.Constants.{constant_base, number_in}
 
@@ -32,3 +32,12 @@ too_great base limit cs v i b h e great =
     let more = grows base b (drop (i + 1) cs) (base * v + digit_value (get_or cs i 0)) in
     let big : limit < number_in base cs = omega (arith, all, more, great) in
     sym (above limit (number_in base cs) big)
+
+-- It is cut where the first digits stand for too great a number.
+pub cut : (base limit : ℕ) (cs : List ℕ) (v i : ℕ) → 1 ≤ base → i < length cs
+    → number_in base cs ≡ fold (λ n c. base * n + digit_value c) v (drop i cs)
+    → limit < base * v + digit_value (get_or cs i 0) → limit ≡ min (number_in base cs) limit
+cut base limit cs v i b h e great = cut_at (number_in base cs) limit (sym (too_great base limit cs v i b h e great))
+  where
+    cut_at : (n limit : ℕ) → nat_lt limit n ≡ true → limit ≡ min n limit
+    cut_at n limit h = grind (arith, h)

@@ -14,5 +14,7 @@ pub mod Tokens
 pub mod Words
 -- what the bytes of a token are
 pub mod Spelling
+-- the values of constants and characters
+pub mod Values
 -- what only private contracts cite
 pub mod inside

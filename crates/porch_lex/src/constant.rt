@@ -14,7 +14,7 @@ use crate::token::TokenKind;
 const GREATEST_INT: u32 = 2_147_483_647;
 
 /// The greatest `unsigned int`, and the greatest `unsigned long` where it has 32 bits.
-const GREATEST_UNSIGNED: u32 = 4_294_967_295;
+pub const GREATEST_UNSIGNED: u32 = 4_294_967_295;
 
 /// What a word is that begins with a digit, and what follows it.
 pub fn constant_lexeme(constant: &[u8], rest: &[u8]) -> Lexeme
@@ -68,7 +68,7 @@ fn is_l(c: u8) -> bool
     c == b'l' || c == b'L'
 }
 
-fn base_of(constant: &[u8]) -> u8
+pub fn base_of(constant: &[u8]) -> u8
     ensures { result ≡ constant_base constant.now }
 {
     match constant {
@@ -85,7 +85,7 @@ fn base_of(constant: &[u8]) -> u8
 }
 
 #[tactic(auto, using(crate::proofs::Numbers::has_two))]
-fn body_of(constant: &[u8], base: u8) -> &[u8]
+pub fn body_of(constant: &[u8], base: u8) -> &[u8]
     requires { base ≡ constant_base constant.now }
     ensures { result.now ≡ constant_body constant.now }
 {

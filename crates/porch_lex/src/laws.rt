@@ -1,9 +1,13 @@
 //! What holds of the tokens of every text. The functions are laws, and have nothing to run.
 
-ghost use Rattle.std.specs.Prelude.{◌≡◌, ◌≤◌, List, ℕ, length};
+ghost use Rattle.std.specs.Prelude.{◌≡◌, ◌≤◌, List, ℕ, length, Some};
 ghost use Rattle.porch_lex.specs.declared.refusal.Refusal.{Refusal};
 ghost use Rattle.porch_lex.specs.declared.token.Token.{Token};
-ghost use Rattle.porch_lex.specs.Spelling.{AreSpelled, AreLongest};
+ghost use Rattle.porch_lex.specs.Spelling.{IsSpelling, AreSpelled, AreLongest};
+ghost use Rattle.porch_lex.specs.declared.token.TokenKind.TheVariants.{Whole};
+ghost use Rattle.porch_lex.specs.Constants.{constant_value, number_in};
+ghost use Rattle.porch_lex.specs.Literals.{if_byte};
+ghost use Rattle.porch_lex.specs.Values.{whole_of, byte_in};
 ghost use Rattle.porch_lex.specs.Tokens.{IsTokens, IsFirstLexFault, IsRising, bytes_of_tokens};
 
 /// A text has at most one list of tokens and at most one first fault, and never both.
@@ -40,4 +44,12 @@ pub fn tokens_are_spelled()
 #[tactic(auto, using(crate::proofs::Longest::tokens_are_longest))]
 pub fn tokens_are_the_longest()
     ensures { (text : List ℕ) (ts : List Token) → IsTokens text ts → AreLongest text ts }
+{}
+
+/// The value of a right constant, and of an escape that is taken, is the number of its digits.
+#[tactic(auto, using(crate::proofs::Values::values_fit, crate::proofs::Values::bytes_fit))]
+pub fn values_are_numbers()
+    ensures whole { (cs : List ℕ) → IsSpelling Whole cs → whole_of cs ≡ constant_value cs }
+    ensures escape { (base : ℕ) (digits : List ℕ) (m n : ℕ)
+        → if_byte (number_in base digits) m ≡ Some n → byte_in base digits ≡ number_in base digits }
 {}

@@ -56,7 +56,7 @@ fn length_if_byte(base: u8, digits: &[u8], length: usize) -> Option<usize>
     }
 }
 
-fn octal_length(text: &[u8]) -> usize
+pub fn octal_length(text: &[u8]) -> usize
     ensures value { result ≡ octal_length text.now }
     ensures within { result ≤ length text.now }
 {
