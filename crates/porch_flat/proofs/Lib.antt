@@ -1,2 +1,4 @@
 pub mod Placed
 pub mod Rules
+pub mod Arguments
+pub mod LabelPlaces

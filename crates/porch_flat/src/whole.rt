@@ -1,7 +1,13 @@
 //! The whole flat text as data: every command, the rules that a program may break, and the programs that
 //! break none. The program that runs uses `flat` as yet.
 
+mod arguments;
 mod form;
+mod jumps;
+mod kinds;
+mod labels;
+mod numbers;
+mod types;
 mod valid;
 
 use crate::flat::{GlobalObject, Operand};
