@@ -2,3 +2,4 @@ pub mod Placed
 pub mod Rules
 pub mod Arguments
 pub mod LabelPlaces
+pub mod Walked

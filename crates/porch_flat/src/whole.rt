@@ -2,13 +2,17 @@
 //! break none. The program that runs uses `flat` as yet.
 
 mod arguments;
+mod arity;
 mod form;
 mod jumps;
 mod kinds;
 mod labels;
+mod modes;
 mod numbers;
+mod rules;
 mod types;
 mod valid;
+mod walk;
 
 use crate::flat::{GlobalObject, Operand};
 use porch_types::Types;
