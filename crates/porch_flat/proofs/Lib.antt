@@ -3,3 +3,4 @@ pub mod Rules
 pub mod Arguments
 pub mod LabelPlaces
 pub mod Walked
+pub mod Modes

@@ -1,13 +1,15 @@
 -- How the first broken rule is looked for, line by line.
-use Rattle.std.specs.Prelude.{◌≡◌, ℕ, ◌+◌, Bool, false, List, length, take, sum_by, slice_get, unwrap_or, Option, Some, None, Result, Ok, Err, ⊤}
+use Rattle.std.specs.Prelude.{◌≡◌, ℕ, ◌+◌, Bool, false, List, [], ◌∷◌, ◌++◌, length, take, sum_by, slice_get, unwrap_or, Option, Some, None, Result, Ok, Err, ⊤}
 use Rattle.porch_types.specs.Leaves.{leaves_of}
+use Rattle.porch_flat.specs.declared.flat.GlobalObject.{GlobalObject}
 use Rattle.porch_flat.specs.declared.whole.FlatRule.{FlatRule}
+use Rattle.porch_flat.specs.declared.whole.Function.{Function}
 use Rattle.porch_flat.specs.declared.whole.Flat.{Flat}
 use Rattle.porch_flat.specs.declared.whole.Sort.{Sort}
 use Rattle.porch_flat.specs.declared.whole.Sort.TheVariants as sort
 use Rattle.porch_flat.specs.declared.whole.valid.ValidFault.{ValidFault}
 use Rattle.porch_flat.specs.declared.whole.valid.ValidFault.TheVariants.{NotValid, NoMemory}
-use Rattle.porch_flat.specs.whole.Lines.{Line}
+use Rattle.porch_flat.specs.whole.Lines.{Line, global_line, init_lines, function_line, var_lines, begin_line, command_lines}
 use Rattle.porch_flat.specs.whole.Rewritten.{reaches}
 use Rattle.porch_flat.specs.whole.Search.{first_in}
 
@@ -43,3 +45,13 @@ reach_of kept n = unwrap_or (slice_get kept n) false
 abbrev pub AreReaching : Sort → Flat → List Bool → Type 0
 AreReaching sort.Plain flat kept = ⊤
 AreReaching sort.Rewritten flat kept = (n : ℕ) → reach_of kept n ≡ reaches flat n
+
+-- the lines of one global, and of one function from its line on
+abbrev pub global_part : ℕ → GlobalObject → List Line
+global_part n g = global_line n g ∷ init_lines n g 0 g.inits
+
+abbrev pub body_part : Function → List Line
+body_part f = begin_line ∷ command_lines f 0 f.commands
+
+abbrev pub function_part : ℕ → Function → List Line
+function_part n f = function_line n f ∷ (var_lines f 0 f.vars ++ body_part f)
