@@ -130,6 +130,10 @@ pub from_element : {X : Type 0} (xs ys : List X) (k : ℕ) (x : X) → ys ≡ xs
 from_element xs ys k x same h here =
     subst (λ zs. drop k zs ≡ x ∷ drop (k + 1) zs) same (drop_more ys k x h ∙ ap (λ y. y ∷ drop (k + 1) ys) (sym here))
 
+pub at_element : {X : Type 0} (xs ys : List X) (k : ℕ) (x : X) → ys ≡ xs → k < length ys → x ≡ get_or ys k x → slice_get xs k ≡ Some x
+at_element xs ys k x same h here =
+    subst (λ zs. slice_get zs k ≡ Some x) same (slice_get-get_or ys k x h ∙ ap (λ y. Some y) (sym here))
+
 -- the lines of one element of a list, each of which has several, and those behind it
 module _ {X : Type 0} (test : Line → Option FlatRule) (lines : ℕ → List X → List Line) (part : ℕ → X → List Line)
     (one : (k : ℕ) (x : X) (xs : List X) → lines k (x ∷ xs) ≡ part k x ++ lines (k + 1) xs) where
