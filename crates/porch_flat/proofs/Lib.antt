@@ -4,3 +4,5 @@ pub mod Arguments
 pub mod LabelPlaces
 pub mod Walked
 pub mod Modes
+pub mod Faults
+pub mod Reaching

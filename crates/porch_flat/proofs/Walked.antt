@@ -202,7 +202,7 @@ found_behind test n [] behind h = refl
 found_behind test n (line ∷ lines) behind h =
     last_one n (test line) _ _ behind (λ none. found_behind test (n + 1) lines behind none) h
 
-found_before : (test : Line → Option FlatRule) (n : ℕ) (lines : List Line) (behind : Option (ℕ × FlatRule)) (found : ℕ × FlatRule) → first_of test n lines ≡ Some found → first_in test n lines behind ≡ Some found
+pub found_before : (test : Line → Option FlatRule) (n : ℕ) (lines : List Line) (behind : Option (ℕ × FlatRule)) (found : ℕ × FlatRule) → first_of test n lines ≡ Some found → first_in test n lines behind ≡ Some found
 found_before test n [] behind found h = cc
 found_before test n (line ∷ lines) behind found h =
     stop_one n (test line) _ _ (Some found) found refl h (λ some. found_before test (n + 1) lines behind found some)

@@ -7,14 +7,17 @@ mod form;
 mod jumps;
 mod kinds;
 mod labels;
+mod laws;
 mod modes;
 mod numbers;
+mod reaching;
 mod rules;
 mod types;
 mod valid;
 mod walk;
 
 use crate::flat::{GlobalObject, Operand};
+pub use laws::the_search_finds_the_first;
 use porch_types::Types;
 use sqlite_items::Items;
 pub use valid::{Plain, Valid, ValidFault};

@@ -1,5 +1,5 @@
 -- How the first broken rule is looked for, line by line.
-use Rattle.std.specs.Prelude.{◌≡◌, ℕ, ◌+◌, Bool, false, List, [], ◌∷◌, ◌++◌, length, take, sum_by, slice_get, unwrap_or, Option, Some, None, Result, Ok, Err, ⊤}
+use Rattle.std.specs.Prelude.{◌≡◌, ℕ, ◌+◌, Bool, true, false, ◌≤◌, List, [], ◌∷◌, ◌++◌, length, take, sum_by, slice_get, unwrap_or, Option, Some, None, Result, Ok, Err, ⊤}
 use Rattle.porch_types.specs.Leaves.{leaves_of}
 use Rattle.porch_flat.specs.declared.flat.GlobalObject.{GlobalObject}
 use Rattle.porch_flat.specs.declared.whole.FlatRule.{FlatRule}
@@ -9,8 +9,9 @@ use Rattle.porch_flat.specs.declared.whole.Sort.{Sort}
 use Rattle.porch_flat.specs.declared.whole.Sort.TheVariants as sort
 use Rattle.porch_flat.specs.declared.whole.valid.ValidFault.{ValidFault}
 use Rattle.porch_flat.specs.declared.whole.valid.ValidFault.TheVariants.{NotValid, NoMemory}
+use Rattle.porch_flat.specs.whole.Form.{Form}
 use Rattle.porch_flat.specs.whole.Lines.{Line, global_line, init_lines, function_line, var_lines, begin_line, command_lines}
-use Rattle.porch_flat.specs.whole.Rewritten.{reaches}
+use Rattle.porch_flat.specs.whole.Rewritten.{are_marked, leads_to_checkpoint, places_from, reaches}
 use Rattle.porch_flat.specs.whole.Search.{first_in}
 
 -- the fault is the one that is found, want of memory apart
@@ -55,3 +56,13 @@ body_part f = begin_line ∷ command_lines f 0 f.commands
 
 abbrev pub function_part : ℕ → Function → List Line
 function_part n f = function_line n f ∷ (var_lines f 0 f.vars ++ body_part f)
+
+-- the places of the calls that have numbers
+abbrev pub call_places : (ℕ → Bool) → List Form → List ℕ
+call_places reaches forms = places_from 0 (leads_to_checkpoint reaches) forms
+
+-- how many there are, if each is marked
+abbrev pub IsMarkedCount : ℕ → List Form → (ℕ → Bool) → Option ℕ → Type 0
+IsMarkedCount vars forms reaches None = are_marked vars forms 1 (call_places reaches forms) ≡ false
+IsMarkedCount vars forms reaches (Some count) =
+    (are_marked vars forms 1 (call_places reaches forms) ≡ true) × (count ≡ length (call_places reaches forms)) × (count ≤ length forms)

@@ -1,12 +1,13 @@
 //! Flat programs that break no rule.
 
-ghost use Rattle.std.specs.Prelude.{◌≡◌};
+ghost use Rattle.std.specs.Prelude.{◌≡◌, IfOk, IfErr, OnOk};
 ghost use Rattle.porch_flat.specs.declared.whole.Sort.TheVariants as sort;
 ghost use Rattle.porch_flat.specs.declared.whole.valid.ValidFault.TheVariants.{NoMemory};
-ghost use Rattle.porch_flat.specs.whole.Rules.{IsValid};
+ghost use Rattle.porch_flat.specs.whole.Rules.{IsValid, IsRefused};
 
-use crate::whole::{Flat, FlatRule};
-use std::alloc::AllocError;
+use crate::whole::walk::find_fault;
+use crate::whole::{Flat, FlatRule, Sort};
+use std::alloc::{AllocError, Global};
 use std::marker::Model;
 use thiserror::Error;
 
@@ -29,6 +30,15 @@ impl From<AllocError> for ValidFault {
     }
 }
 
+// Refuses a program with a command for saving and rebuilding frames, or one that breaks another rule.
+#[tactic(auto, using(crate::proofs::Faults::valid_result, crate::proofs::Faults::refused_by))]
+fn check_plain(alloc: Global, flat: &Flat) -> Result<(), ValidFault>
+    ensures valid { OnOk result (IsValid sort.Plain flat.now) }
+    ensures refused { IfErr result (λ fault. IsRefused sort.Plain flat.now fault) }
+{
+    find_fault(alloc, Sort::Plain, flat, &[])
+}
+
 /// A valid program without commands for saving and rebuilding frames.
 #[derive(Drop)]
 pub struct Plain {
@@ -48,6 +58,16 @@ impl Model for Plain {
 }
 
 impl Plain {
+    /// Takes a program that breaks no rule; another is dropped. The time is linear in the text of the program.
+    pub fn new(alloc: Global, flat: Flat) -> Result<Plain, ValidFault>
+        ensures same { IfOk result (λ p. p ≡ flat) }
+        ensures valid { IfOk result (λ p. IsValid sort.Plain p) }
+        ensures refused { IfErr result (λ fault. IsRefused sort.Plain flat fault) }
+    {
+        check_plain(alloc, &flat)?;
+        Ok(Plain { flat })
+    }
+
     /// Takes a program that is known to break no rule. It takes no memory.
     pub fn from_valid(flat: Flat) -> Plain
         requires { IsValid sort.Plain flat }

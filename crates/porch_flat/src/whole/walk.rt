@@ -309,12 +309,7 @@ fn has_main(flat: &Flat) -> bool
     }
 }
 
-fn pass_lines(
-    alloc: Global,
-    sort: Sort,
-    flat: &Flat,
-    reaching: &[bool],
-) -> Result<u64, ValidFault>
+fn pass_lines(alloc: Global, sort: Sort, flat: &Flat, reaching: &[bool]) -> Result<u64, ValidFault>
     requires { AreReaching sort flat.now reaching.now }
     ensures { Passes (first_rule sort flat.now) 3 (lines_of flat.now) result }
 {
