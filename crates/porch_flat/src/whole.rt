@@ -3,6 +3,7 @@
 
 mod arguments;
 mod arity;
+mod copies;
 mod form;
 mod jumps;
 mod kinds;

@@ -5,6 +5,8 @@ ghost use Rattle.porch_flat.specs.declared.whole.Sort.TheVariants as sort;
 ghost use Rattle.porch_flat.specs.declared.whole.valid.ValidFault.TheVariants.{NoMemory};
 ghost use Rattle.porch_flat.specs.whole.Rules.{IsValid, IsRefused};
 
+use crate::whole::copies::copy_flat;
+use crate::whole::reaching::reaching;
 use crate::whole::walk::find_fault;
 use crate::whole::{Flat, FlatRule, Sort};
 use std::alloc::{AllocError, Global};
@@ -103,6 +105,17 @@ impl Plain {
     }
 }
 
+// Refuses a program in which a function doesn't save and rebuild its frames as it has to, or that breaks
+// another rule.
+#[tactic(auto, using(crate::proofs::Faults::valid_result, crate::proofs::Faults::refused_by))]
+fn check_rewritten(alloc: Global, flat: &Flat) -> Result<(), ValidFault>
+    ensures valid { OnOk result (IsValid sort.Rewritten flat.now) }
+    ensures refused { IfErr result (λ fault. IsRefused sort.Rewritten flat.now fault) }
+{
+    let kept = reaching(alloc, flat)?;
+    find_fault(alloc, Sort::Rewritten, flat, kept.as_slice())
+}
+
 /// A valid program that saves and rebuilds the frames of each function that reaches a checkpoint.
 #[derive(Drop)]
 pub struct Valid {
@@ -122,6 +135,26 @@ impl Model for Valid {
 }
 
 impl Valid {
+    /// Takes a program that breaks no rule; another is dropped. The time is linear in the text of the
+    /// program, and for the functions that reach a checkpoint in the text once more for each call that
+    /// leads to a function that stands later, in a chain of such calls.
+    pub fn new(alloc: Global, flat: Flat) -> Result<Valid, ValidFault>
+        ensures same { IfOk result (λ p. p ≡ flat) }
+        ensures valid { IfOk result (λ p. IsValid sort.Rewritten p) }
+        ensures refused { IfErr result (λ fault. IsRefused sort.Rewritten flat fault) }
+    {
+        check_rewritten(alloc, &flat)?;
+        Ok(Valid { flat })
+    }
+
+    /// An equal program.
+    pub fn copy(&self, alloc: Global) -> Result<Valid, AllocError>
+        ensures { IfOk result (λ p. p ≡ self.now) }
+    {
+        let flat = copy_flat(alloc, &self.flat)?;
+        Ok(Valid { flat })
+    }
+
     /// Takes a program that is known to break no rule. It takes no memory.
     pub fn from_valid(flat: Flat) -> Valid
         requires { IsValid sort.Rewritten flat }
