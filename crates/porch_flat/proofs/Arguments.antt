@@ -3,7 +3,7 @@ use Rattle.std.proofs.Common.{◌≡◌, ◌<◌, ◌+◌, ℕ, zero, suc, List,
 use Rattle.std.proofs.Math.ListN.{get_or}
 use Rattle.std.specs.Prelude.{slice_get}
 use Rattle.porch_flat.specs.declared.flat.Operand.{Operand}
-use Rattle.porch_flat.specs.whole.Places.{Place, place, argument_places}
+use Rattle.porch_flat.specs.whole.Places.{place, argument_places}
 
 more_than_parameters : (os : List Operand) (at : ℕ) (d : Operand) → at < length os
     → argument_places (drop at os) [] ≡ place (get_or os at d) None ∷ argument_places (drop (suc at) os) []

@@ -1,5 +1,5 @@
 -- What is found by going through the lines is the first rule that is broken.
-use Rattle.std.proofs.Common.{◌≡◌, ◌<◌, ◌≤◌, ◌+◌, ◌-◌, ◌⊎◌, inl, inr, ℕ, zero, suc, nat_lt, Bool, true, false, if◌then◌else◌, List, [], ◌∷◌, length, Option, Some, None, arith, refl, ap, sym, subst, ◌∙◌}
+use Rattle.std.proofs.Common.{◌≡◌, ◌<◌, ◌≤◌, ◌+◌, ◌-◌, ◌⊎◌, inl, inr, ℕ, zero, suc, nat_lt, Bool, true, false, if◌then◌else◌, List, [], ◌∷◌, Option, Some, None, arith, refl, ap, sym, subst, ◌∙◌}
 use Rattle.std.specs.Prelude.{slice_get, Result, Ok, Err, OnOk}
 use Rattle.std.proofs.lemmas.Option.{slice_get_within, same_Some}
 use Rattle.std.proofs.lemmas.Bool.{cases_lt}
@@ -11,8 +11,8 @@ use Rattle.porch_flat.specs.declared.whole.Sort.{Sort}
 use Rattle.porch_flat.specs.declared.whole.valid.ValidFault.{ValidFault}
 use Rattle.porch_flat.specs.declared.whole.valid.ValidFault.TheVariants.{NotValid, NoMemory}
 use Rattle.porch_flat.specs.whole.Lines.{Line, lines_of, line_at, line_behind}
-use Rattle.porch_flat.specs.whole.Rules.{keeps, has_main, Breaks, in_line, without_main, IsValid, IsFirstBroken, IsRefused, rule_rank}
-use Rattle.porch_flat.specs.whole.Search.{first_rule, found_at, first_in, first_fault, main_fault}
+use Rattle.porch_flat.specs.whole.Rules.{keeps, has_main, in_line, without_main, IsValid, IsFirstBroken, IsRefused, rule_rank}
+use Rattle.porch_flat.specs.whole.Search.{first_rule, found_at, first_fault, main_fault}
 use Rattle.porch_flat.specs.inside.Walks.{Finds, IsFault, first_of}
 use Rattle.porch_flat.proofs.Walked.{found_behind, found_before}
 

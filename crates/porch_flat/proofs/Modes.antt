@@ -1,5 +1,5 @@
 -- Counting the commands for saving and rebuilding frames.
-use Rattle.std.proofs.Common.{◌≡◌, ◌+◌, ◌-◌, ◌<◌, ◌≤◌, ◌⊎◌, inl, inr, ℕ, zero, suc, nat_eq, Bool, true, false, cond, List, [], ◌∷◌, length, drop, map, arith, refl, ap, sym, eq-eqb, ◌∙◌}
+use Rattle.std.proofs.Common.{◌≡◌, ◌+◌, ◌-◌, ◌<◌, ◌≤◌, inl, inr, ℕ, zero, suc, nat_eq, Bool, true, false, cond, List, [], ◌∷◌, length, drop, map, arith, refl, ap, sym, eq-eqb, ◌∙◌}
 use Rattle.std.proofs.Math.ListN.{get_or}
 use Rattle.std.proofs.lemmas.Bool.{cases_lt}
 use Rattle.std.proofs.lemmas.Bool.Decides.{nat_tests}

@@ -1,6 +1,6 @@
 -- Going through lines one by one.
-use Rattle.std.proofs.Common.{◌≡◌, ◌<◌, ◌≤◌, ◌+◌, ◌-◌, ℕ, zero, suc, List, [], ◌∷◌, ◌++◌, length, take, drop, Option, Some, None, false, arith, refl, ap, sym, subst, append_assoc, ◌∙◌}
-use Rattle.std.specs.Prelude.{slice_get, sum_by, Result, Ok, Err, IfOk, IfErr}
+use Rattle.std.proofs.Common.{◌≡◌, ◌<◌, ◌≤◌, ◌+◌, ◌-◌, ℕ, suc, List, [], ◌∷◌, ◌++◌, length, drop, Option, Some, None, false, arith, refl, ap, sym, subst, append_assoc, ◌∙◌}
+use Rattle.std.specs.Prelude.{slice_get, Result, Ok, Err, IfOk, IfErr}
 use Rattle.std.proofs.Math.ListN.{get_or, length-append, length-drop}
 use Rattle.std.proofs.lemmas.List.{drop_more}
 use Rattle.std.proofs.lemmas.List.Sums.{sum_by_more}

@@ -1,5 +1,5 @@
 -- How the first broken rule is looked for, line by line.
-use Rattle.std.specs.Prelude.{◌≡◌, ℕ, ◌+◌, Bool, true, false, ◌≤◌, List, [], ◌∷◌, ◌++◌, length, take, sum_by, slice_get, unwrap_or, Option, Some, None, Result, Ok, Err, ⊤}
+use Rattle.std.specs.Prelude.{◌≡◌, ℕ, ◌+◌, Bool, true, false, ◌≤◌, List, ◌∷◌, ◌++◌, length, take, sum_by, slice_get, unwrap_or, Option, Some, None, Result, Ok, Err, ⊤}
 use Rattle.porch_types.specs.Leaves.{leaves_of}
 use Rattle.porch_flat.specs.declared.flat.GlobalObject.{GlobalObject}
 use Rattle.porch_flat.specs.declared.whole.FlatRule.{FlatRule}

@@ -1,6 +1,6 @@
 -- Which data are a flat program, valid or not: what a text can say. What breaks this is no program at all, so no rule
 -- speaks of it.
-use Rattle.std.specs.Prelude.{ℕ, ℤ, pos, neg_ℤ, int_le, int_lt, ◌^◌, ◌==◌, nat_le, nat_lt, Bool, true, false, not, ◌&&◌, ◌||◌, IsTrue, List, [], ◌∷◌, ◌++◌, drop, codes, Option, Some, None}
+use Rattle.std.specs.Prelude.{ℕ, ℤ, pos, neg_ℤ, int_le, int_lt, ◌^◌, ◌==◌, nat_le, nat_lt, Bool, true, false, not, ◌&&◌, ◌||◌, IsTrue, List, [], ◌∷◌, drop, codes}
 use Rattle.std.specs.List.{list_all, list_any}
 use Rattle.std.specs.Ordering.{int_eq}
 use Rattle.std.specs.Str.{bytes_eq}
@@ -12,10 +12,9 @@ use Rattle.porch_flat.specs.declared.flat.Init.{Init}
 use Rattle.porch_flat.specs.declared.flat.Init.TheVariants.{Value, Address}
 use Rattle.porch_flat.specs.declared.flat.Operand.{Operand}
 use Rattle.porch_flat.specs.declared.flat.Operand.TheVariants.{Var, Constant}
-use Rattle.porch_flat.specs.declared.whole.Command.{Command}
 use Rattle.porch_flat.specs.declared.whole.Function.{Function}
 use Rattle.porch_flat.specs.declared.whole.Flat.{Flat}
-use Rattle.porch_flat.specs.whole.Form.{Form, form_of, Within, variable, global, pointee, subobject, call, operands_of, variables_of, free_numbers_of, number_list}
+use Rattle.porch_flat.specs.whole.Form.{Form, form_of, Within, global, subobject, call, operands_of, variables_of, free_numbers_of, number_list}
 
 -- the type stands in a line of its own: it is no kind
 abbrev pub is_built : Ty → Bool

@@ -1,5 +1,5 @@
 -- The first rule that a program breaks, found by going through its lines.
-use Rattle.std.specs.Prelude.{ℕ, ◌+◌, Bool, true, false, if◌then◌else◌, List, [], ◌∷◌, Option, Some, None}
+use Rattle.std.specs.Prelude.{ℕ, ◌+◌, if◌then◌else◌, List, [], ◌∷◌, Option, Some, None}
 use Rattle.porch_flat.specs.declared.whole.FlatRule.{FlatRule}
 use Rattle.porch_flat.specs.declared.whole.FlatRule.TheVariants as rule
 use Rattle.porch_flat.specs.declared.whole.Flat.{Flat}

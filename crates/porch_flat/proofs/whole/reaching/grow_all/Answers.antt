@@ -1,5 +1,5 @@
-use Rattle.std.proofs.Common.{sym, subst, length, replicate, false, arith, ◌∙◌}
-use Rattle.porch_flat.proofs.Reaching.{IsKept, kept_first, kept_next, kept_all, kept_last}
+use Rattle.std.proofs.Common.{sym, subst, length}
+use Rattle.porch_flat.proofs.Reaching.{IsKept, kept_first, kept_next, kept_all}
 use Rattle.porch_flat.proofs.whole.reaching.grow_all.Goals as goal
 
 pub loop-round-init : goal.loop-round-init

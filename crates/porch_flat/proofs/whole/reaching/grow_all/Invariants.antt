@@ -1,4 +1,3 @@
-use Rattle.std.proofs.Common.{◌≡◌, length}
 use Rattle.porch_flat.proofs.Reaching.{IsKept}
 use Rattle.porch_flat.proofs.whole.reaching.grow_all.Given as goal
 

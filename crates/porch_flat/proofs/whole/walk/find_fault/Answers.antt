@@ -1,8 +1,7 @@
-use Rattle.std.proofs.Common.{◌≡◌, ◌+◌, length, false, ap, rules, arith, ◌∙◌, sym, Some}
-use Rattle.porch_flat.specs.declared.whole.FlatRule.TheVariants.{Main}
-use Rattle.porch_flat.specs.whole.Lines.{lines_of, line_behind}
+use Rattle.std.proofs.Common.{◌≡◌, false, rules, arith, ◌∙◌, sym}
+use Rattle.porch_flat.specs.whole.Lines.{lines_of}
 use Rattle.porch_flat.specs.whole.Rules.{has_main}
-use Rattle.porch_flat.specs.whole.Search.{first_rule, first_fault, main_fault}
+use Rattle.porch_flat.specs.whole.Search.{first_rule, main_fault}
 use Rattle.porch_flat.proofs.Walked.{fault_before, found_behind, main_fault_at}
 use Rattle.porch_flat.proofs.whole.walk.find_fault.Goals as goal
 

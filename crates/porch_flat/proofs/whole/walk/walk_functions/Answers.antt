@@ -1,4 +1,4 @@
-use Rattle.std.proofs.Common.{◌≡◌, ◌+◌, ◌∷◌, drop, arith, rules, sym, ◌∙◌}
+use Rattle.std.proofs.Common.{◌≡◌, ◌+◌, ◌∷◌, drop, arith, rules, ◌∙◌}
 use Rattle.porch_flat.specs.whole.Search.{first_rule}
 use Rattle.porch_flat.proofs.Walked.{from_element, next_function, end_function, stop_function}
 use Rattle.porch_flat.proofs.whole.walk.walk_functions.Goals as goal

@@ -1,4 +1,4 @@
-use Rattle.std.proofs.Common.{◌≡◌, ◌+◌, ◌∷◌, drop, slice_get, Some, arith, rules, sym, ◌∙◌}
+use Rattle.std.proofs.Common.{◌≡◌, ◌+◌, ◌∷◌, drop, slice_get, Some, arith, rules, ◌∙◌}
 use Rattle.porch_flat.specs.whole.Search.{first_rule}
 use Rattle.porch_types.specs.Leaves.{leaves_of}
 use Rattle.porch_flat.specs.inside.Walks.{leaves_before}

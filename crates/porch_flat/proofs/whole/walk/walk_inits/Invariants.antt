@@ -1,4 +1,4 @@
-use Rattle.std.proofs.Common.{◌≡◌, ◌+◌, ◌-◌, drop}
+use Rattle.std.proofs.Common.{◌≡◌, ◌+◌, drop}
 use Rattle.porch_flat.specs.whole.Lines.{init_lines}
 use Rattle.porch_flat.specs.whole.Search.{first_rule}
 use Rattle.porch_flat.specs.inside.Walks.{first_of}
