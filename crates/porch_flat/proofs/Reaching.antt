@@ -9,7 +9,7 @@ use Rattle.porch_flat.specs.declared.whole.Flat.{Flat}
 use Rattle.porch_flat.specs.whole.Form.{Form, form_of, call, checkpoint}
 use Rattle.porch_flat.specs.whole.Places.{commands_of}
 use Rattle.porch_flat.specs.whole.Rewritten.{leads_to_checkpoint, reaches, reaches_within}
-use Rattle.porch_flat.specs.inside.Reaching.{IsWithin, IsClosed, HasGrown, HasGrownTo, leads_on}
+use Rattle.porch_flat.specs.inside.Reaching.{IsWithin, IsClosed, HasGrown, HasGrownFrom, HasGrownTo, leads_on}
 use Rattle.porch_flat.specs.inside.Walks.{reach_of}
 
 true_or_false : {b : Bool} → b ≡ true → b ≡ false → ⊥
@@ -289,3 +289,35 @@ pub kept_all : (flat : Flat) (old new : List Bool) (n : ℕ) → IsKept flat old
 kept_all flat old new n before grown same f =
     let closed : IsClosed flat (reach_of new) = subst (λ kept. IsWithin (leads_on flat (reach_of kept)) (reach_of new)) (sym same) (leads_kept flat old new grown) in
     same_test (reach_of new f) (reaches flat f) (grown.more.sound (reaches flat) before.sound (reaches_closed flat) f) (in_closed flat (reach_of new) closed (length flat.functions) f)
+
+-- from the last function back
+
+pub grown_from_none : (flat : Flat) (kept : List Bool) (low : ℕ) → length flat.functions ≤ low → HasGrownFrom flat kept kept low
+grown_from_none flat kept low all = record { more = grown_same flat kept; next = λ f h within e. absurd (omega (arith, all, h, within)) }
+
+pub grown_back : (flat : Flat) (old kept new : List Bool) (k low : ℕ) → k + 1 ≡ low → HasGrownFrom flat old kept low → HasGrown flat kept new
+    → (leads_on flat (reach_of kept) k ≡ true → reach_of new k ≡ true) → HasGrownFrom flat old new k
+grown_back flat old kept new k low step before here go = record {
+  more = record {
+    grew = λ n e. here.grew n (before.more.grew n e);
+    sound = λ p within closed. here.sound p (before.more.sound p within closed) closed;
+  };
+  next = λ f h within e. elim (cases_lt k f) [
+    | inl later ↦ here.grew f (before.next f (omega (arith, step, later)) within e)
+    | inr first ↦
+        let same : f ≡ k = omega (arith, h, first) in
+        subst (λ g. reach_of new g ≡ true) (sym same) (go (leads_more flat (reach_of old) (reach_of kept) before.more.grew k (subst (λ g. leads_on flat (reach_of old) g ≡ true) same e)))
+  ];
+}
+
+pub grown_whole : (flat : Flat) (old new : List Bool) → HasGrownFrom flat old new 0 → HasGrownTo flat old new (length flat.functions)
+grown_whole flat old new back = record { more = back.more; next = λ f within e. back.next f (omega arith) within e }
+
+pub grown_both : (flat : Flat) (old kept new : List Bool) (n : ℕ) → HasGrownTo flat old kept n → HasGrownTo flat kept new n → HasGrownTo flat old new n
+grown_both flat old kept new n up down = record {
+  more = record {
+    grew = λ m e. down.more.grew m (up.more.grew m e);
+    sound = λ p within closed. down.more.sound p (up.more.sound p within closed) closed;
+  };
+  next = λ f within e. down.more.grew f (up.next f within e);
+}

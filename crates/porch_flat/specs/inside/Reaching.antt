@@ -1,5 +1,5 @@
 -- How the functions that reach a checkpoint are found: from none on, each that leads to one that was found.
-use Rattle.std.specs.Prelude.{◌≡◌, ◌<◌, ℕ, Bool, true, List, slice_get}
+use Rattle.std.specs.Prelude.{◌≡◌, ◌<◌, ◌≤◌, ℕ, Bool, true, List, length, slice_get}
 use Rattle.std.specs.List.{list_any}
 use Rattle.porch_flat.specs.declared.whole.Flat.{Flat}
 use Rattle.porch_flat.specs.whole.Form.{form_of}
@@ -28,3 +28,8 @@ pub record HasGrown (flat : Flat) (old new : List Bool) : Type 0 where
 pub record HasGrownTo (flat : Flat) (old new : List Bool) (count : ℕ) : Type 0 where
   pub more : HasGrown flat old new
   pub next : (f : ℕ) → f < count → leads_on flat (reach_of old) f ≡ true → reach_of new f ≡ true
+
+-- and those from this one on
+pub record HasGrownFrom (flat : Flat) (old new : List Bool) (low : ℕ) : Type 0 where
+  pub more : HasGrown flat old new
+  pub next : (f : ℕ) → low ≤ f → f < length flat.functions → leads_on flat (reach_of old) f ≡ true → reach_of new f ≡ true

@@ -1,6 +1,6 @@
 -- Programs to try the rules on: one that saves and rebuilds its frame, one without a function, and one with a line to
 -- be filled in.
-use Rattle.std.specs.Prelude.{ℕ, pos, negsuc, Bool, ◌&&◌, List, [], ◌∷◌, ◌++◌, codes, Option, Some, None}
+use Rattle.std.specs.Prelude.{ℕ, pos, negsuc, Bool, true, false, ◌&&◌, List, [], ◌∷◌, ◌++◌, codes, Option, Some, None}
 use Rattle.std.specs.Option.{option_map}
 use Rattle.std.specs.List.{list_all}
 use Rattle.porch_types.specs.Leaves.{kind_types}
@@ -201,3 +201,9 @@ rows =
     ∷ record { sort = sort.Plain; program = program_without_main []; fault = Some (17, rule.Main) }
     ∷ record { sort = sort.Plain; program = program_without_main (command.Jump 3 ∷ []); fault = Some (16, rule.Jump) }
     ∷ []
+
+-- names, and whether a function may have them
+abbrev pub name_rows : List (List ℕ × Bool)
+name_rows =
+    (codes "main", true) ∷ (codes "_f2", true) ∷ (codes "While", true) ∷ (codes "while", false)
+    ∷ (codes "unsigned", false) ∷ (codes "2f", false) ∷ (codes "f-2", false) ∷ ([], false) ∷ []

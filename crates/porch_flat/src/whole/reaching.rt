@@ -13,8 +13,9 @@ use crate::whole::modes::leads_to_checkpoint;
 use crate::whole::{Command, Flat};
 use std::alloc::{AllocError, Global};
 
-/// For each function whether it reaches a checkpoint. The time is that of going through the program once
-/// more than calls lead to a function that stands later, one behind the other.
+/// For each function whether it reaches a checkpoint. The time is that of going through the program a few
+/// times: twice where calls lead to functions that stand earlier, or later, and twice more for each change
+/// of direction in a chain of calls.
 pub(crate) fn reaching(alloc: Global, flat: &Flat) -> Result<Vec<bool>, AllocError>
     ensures { IfOk result (λ kept. (n : ℕ) → reach_of kept.items n ≡ reaches flat.now n) }
 {
@@ -30,7 +31,7 @@ fn grow_all(flat: &Flat, kept: &mut [bool])
 {
     let count = flat.functions.len();
     for round in 0..count {
-        if !grow(flat, kept) {
+        if !grow_both(flat, kept) {
             return;
         }
     }
@@ -84,8 +85,8 @@ fn grow_at(flat: &Flat, kept: &mut [bool], number: usize) -> bool
     }
 }
 
-// Goes through the functions once, and says whether one is new.
-fn grow(flat: &Flat, kept: &mut [bool]) -> bool
+// Goes through the functions once, from the first on, and says whether one is new.
+fn grow_forward(flat: &Flat, kept: &mut [bool]) -> bool
     requires { length kept.old ≡ length flat.now.functions }
     ensures grown { HasGrownTo flat.now kept.old kept.new (length flat.now.functions) }
     ensures same { OnFalse result (kept.new ≡ kept.old) }
@@ -97,4 +98,33 @@ fn grow(flat: &Flat, kept: &mut [bool]) -> bool
         }
     }
     changed
+}
+
+// Goes through the functions once, from the last back, and says whether one is new.
+#[tactic(auto, using(crate::proofs::Reaching::grown_whole))]
+fn grow_back(flat: &Flat, kept: &mut [bool]) -> bool
+    requires { length kept.old ≡ length flat.now.functions }
+    ensures grown { HasGrownTo flat.now kept.old kept.new (length flat.now.functions) }
+    ensures same { OnFalse result (kept.new ≡ kept.old) }
+{
+    let mut changed = false;
+    let count = kept.len();
+    for step in 0..count {
+        if grow_at(flat, kept, count - 1 - step) {
+            changed = true;
+        }
+    }
+    changed
+}
+
+// Goes through the functions forward and back, so that no chain of calls in either direction takes longer.
+#[tactic(auto, using(crate::proofs::Reaching::grown_both))]
+fn grow_both(flat: &Flat, kept: &mut [bool]) -> bool
+    requires { length kept.old ≡ length flat.now.functions }
+    ensures grown { HasGrownTo flat.now kept.old kept.new (length flat.now.functions) }
+    ensures same { OnFalse result (kept.new ≡ kept.old) }
+{
+    let forward = grow_forward(flat, kept);
+    let back = grow_back(flat, kept);
+    forward || back
 }

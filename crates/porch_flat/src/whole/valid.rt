@@ -135,9 +135,9 @@ impl Model for Valid {
 }
 
 impl Valid {
-    /// Takes a program that breaks no rule; another is dropped. The time is linear in the text of the
-    /// program, and for the functions that reach a checkpoint in the text once more for each call that
-    /// leads to a function that stands later, in a chain of such calls.
+    /// Takes a program that breaks no rule; another is dropped. The time is linear in the text of the program;
+    /// to know which functions reach a checkpoint it takes a few passes over the commands, two more for each
+    /// time that a chain of calls turns from earlier functions to later ones.
     pub fn new(alloc: Global, flat: Flat) -> Result<Valid, ValidFault>
         ensures same { IfOk result (λ p. p ≡ flat) }
         ensures valid { IfOk result (λ p. IsValid sort.Rewritten p) }

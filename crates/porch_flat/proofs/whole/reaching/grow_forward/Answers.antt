@@ -1,7 +1,7 @@
 use Rattle.std.proofs.Common.{◌≡◌, true, false, rules, sym, ◌∙◌}
 use Rattle.porch_flat.proofs.Reaching.{grown_more}
-use Rattle.porch_flat.proofs.whole.reaching.grow.Goals as goal
-use Rattle.porch_flat.proofs.whole.reaching.grow.Goals.{then-grow_at, else-grow_at}
+use Rattle.porch_flat.proofs.whole.reaching.grow_forward.Goals as goal
+use Rattle.porch_flat.proofs.whole.reaching.grow_forward.Goals.{then-grow_at, else-grow_at}
 
 pub loop-number-preserved : goal.loop-number-preserved
 loop-number-preserved c =
