@@ -196,3 +196,40 @@ fn each_sort_has_its_own_commands(rt: HostRuntime) -> Result<(), Fail> {
     );
     Ok(())
 }
+
+// `main` shows an A behind a checkpoint, and saves and rebuilds its first variable.
+fn saving_program(alloc: Global, vars: &[u32]) -> Result<Flat, Fail> {
+    let mut commands = Items::new(alloc);
+    commands.push(Command::Restore(Items::from_slice(alloc, &[0])?))?;
+    commands.push(Command::Table(1, 0))?;
+    commands.push(Command::Label(0))?;
+    commands.push(Command::Checkpoint)?;
+    commands.push(Command::Saved(1, 1))?;
+    commands.push(Command::Char(0, Operand::Constant(65)))?;
+    commands.push(Command::Return(Some(Operand::Constant(0))))?;
+    commands.push(Command::Label(1))?;
+    commands.push(Command::Push(Items::from_slice(alloc, &[0])?))?;
+    let mut functions = Items::new(alloc);
+    functions.push(function(alloc, "main", Some(4), 0, vars, commands)?)?;
+    Ok(Flat {
+        types: Types::new(alloc)?,
+        globals: Items::new(alloc),
+        functions,
+    })
+}
+
+fn saving_refusal(alloc: Global, flat: Flat) -> Result<Refusal, Fail> {
+    match Valid::new(alloc, flat) {
+        Ok(_) => Ok(None),
+        Err(fault) => refusal_of(fault),
+    }
+}
+
+#[test]
+fn a_frame_is_saved_whole(rt: HostRuntime) -> Result<(), Fail> {
+    let alloc = rt.alloc();
+    assert_eq!(rt; saving_refusal(alloc, saving_program(alloc, &[4])?)?, None);
+    let part = saving_program(alloc, &[4, 4])?;
+    assert_eq!(rt; saving_refusal(alloc, part)?, Some((3, FlatRule::Modes)));
+    Ok(())
+}

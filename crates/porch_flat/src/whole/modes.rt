@@ -225,7 +225,8 @@ fn is_marked(f: &Function, k: usize, at: usize) -> bool
 // How many calls have numbers, if each is marked.
 #[tactic(auto, using(crate::proofs::Modes::places_in, crate::proofs::Modes::places_on, crate::proofs::Modes::form_count))]
 fn count_marked(f: &Function, reaching: &[bool]) -> Option<usize>
-    ensures { IsMarkedCount (length f.now.vars) (map form_of f.now.commands) (reach_of reaching.now) result }
+    ensures { IsMarkedCount (length f.now.vars) (map form_of f.now.commands)
+        (reach_of reaching.now) result }
 {
     let mut count = 0;
     for (at, command) in f.commands.as_slice().iter().enumerate() {
@@ -327,7 +328,8 @@ fn pushes(command: &Command, count: usize) -> bool
 
 #[tactic(auto, using(crate::proofs::Modes::form_at))]
 fn begins_well(f: &Function) -> bool
-    ensures { result ≡ passes (restores (length f.now.vars)) (slice_get (map form_of f.now.commands) 0) }
+    ensures { result ≡ passes (restores (length f.now.vars))
+        (slice_get (map form_of f.now.commands) 0) }
 {
     match f.commands.get(0) {
         Some(command) => restores(command, f.vars.len()),

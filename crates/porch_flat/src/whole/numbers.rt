@@ -67,7 +67,8 @@ fn is_result(f: &Function, r: Option<u32>) -> bool
 }
 
 fn has_variable_within(f: &Function, within: Within) -> bool
-    ensures { result ≡ list_all (λ v. nat_lt v (length f.now.vars)) (variable_of (within_of within)) }
+    ensures { result
+        ≡ list_all (λ v. nat_lt v (length f.now.vars)) (variable_of (within_of within)) }
 {
     match within {
         Within::Variable(w) => is_variable(f, w),

@@ -135,7 +135,8 @@ fn pass_inits(
     g: &GlobalObject,
     line: u64,
 ) -> Result<u64, ValidFault>
-    ensures { Passes (first_rule sort flat.now) line (init_lines number g.now 0 g.now.inits) result }
+    ensures { Passes (first_rule sort flat.now) line
+        (init_lines number g.now 0 g.now.inits) result }
 {
     walk_inits(sort, flat, number, g, line)?;
     line_after(line, g.inits.len())
