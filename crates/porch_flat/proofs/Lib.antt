@@ -5,4 +5,6 @@ pub mod LabelPlaces
 pub mod Walked
 pub mod Modes
 pub mod Faults
-pub mod Reaching
+pub mod CallGraph
+pub mod Reached
+pub mod Marks

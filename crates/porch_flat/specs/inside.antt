@@ -2,4 +2,4 @@ pub mod FirstPlaces
 pub mod Checked
 pub mod Forms
 pub mod Walks
-pub mod Reaching
+pub mod CallGraph

@@ -6,6 +6,8 @@ pub mod Lines
 pub mod Places
 -- how frames are saved and rebuilt
 pub mod Rewritten
+-- which functions reach a checkpoint
+pub mod Calls
 -- which data a text can say
 pub mod Flats
 -- the rules

@@ -6,7 +6,7 @@
 //! `whole.rt` is the whole flat text as data: every command. In `src/whole/` stand the rules as they are checked: `form.rt`
 //! has a command's form, `types.rt`, `numbers.rt`, `kinds.rt`, `arguments.rt`, `arity.rt`, `jumps.rt` and `modes.rt` the
 //! rules of a command and a function, `rules.rt` the first rule that a line breaks, `walk.rt` the first line that breaks
-//! one, `reaching.rt` which functions reach a checkpoint, and `valid.rt` the programs that break none. `specs/whole/Rules`
+//! one, `calls.rt` which functions reach a checkpoint, and `valid.rt` the programs that break none. `specs/whole/Rules`
 //! says what the rules are. The program that runs uses the smaller `flat` as yet.
 #![tactic(auto)]
 

@@ -3,6 +3,7 @@
 
 mod arguments;
 mod arity;
+mod calls;
 mod copies;
 mod form;
 mod jumps;
@@ -11,13 +12,13 @@ mod labels;
 mod laws;
 mod modes;
 mod numbers;
-mod reaching;
 mod rules;
 mod types;
 mod valid;
 mod walk;
 
 use crate::flat::{GlobalObject, Operand};
+pub use calls::reaching;
 pub use laws::the_search_finds_the_first;
 use porch_types::Types;
 use sqlite_items::Items;

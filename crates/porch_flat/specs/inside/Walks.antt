@@ -1,5 +1,5 @@
 -- How the first broken rule is looked for, line by line.
-use Rattle.std.specs.Prelude.{◌≡◌, ℕ, ◌+◌, Bool, true, false, ◌≤◌, List, ◌∷◌, ◌++◌, length, take, sum_by, slice_get, unwrap_or, Option, Some, None, Result, Ok, Err, ⊤}
+use Rattle.std.specs.Prelude.{◌≡◌, ℕ, ◌+◌, Bool, true, false, ◌≤◌, List, ◌∷◌, ◌++◌, length, take, sum_by, slice_index_or, Option, Some, None, Result, Ok, Err, ⊤}
 use Rattle.porch_types.specs.Leaves.{leaves_of}
 use Rattle.porch_flat.specs.declared.flat.GlobalObject.{GlobalObject}
 use Rattle.porch_flat.specs.declared.whole.FlatRule.{FlatRule}
@@ -40,7 +40,7 @@ leaves_before flat n = sum_by (λ g. leaves_of flat.types g.ty) (take n flat.glo
 
 -- what is kept of a function's reaching a checkpoint
 abbrev pub reach_of : List Bool → ℕ → Bool
-reach_of kept n = unwrap_or (slice_get kept n) false
+reach_of kept n = slice_index_or kept n false
 
 -- it is kept of each function, where it is asked for
 abbrev pub AreReaching : Sort → Flat → List Bool → Type 0

@@ -5,8 +5,8 @@ ghost use Rattle.porch_flat.specs.declared.whole.Sort.TheVariants as sort;
 ghost use Rattle.porch_flat.specs.declared.whole.valid.ValidFault.TheVariants.{NoMemory};
 ghost use Rattle.porch_flat.specs.whole.Rules.{IsValid, IsRefused};
 
+use crate::whole::calls::reaching;
 use crate::whole::copies::copy_flat;
-use crate::whole::reaching::reaching;
 use crate::whole::walk::find_fault;
 use crate::whole::{Flat, FlatRule, Sort};
 use std::alloc::{AllocError, Global};
@@ -60,7 +60,8 @@ impl Model for Plain {
 }
 
 impl Plain {
-    /// Takes a program that breaks no rule; another is dropped. The time is linear in the text of the program.
+    /// Takes a program that breaks no rule; another is dropped. The time is linear in the text of the
+    /// program.
     pub fn new(alloc: Global, flat: Flat) -> Result<Plain, ValidFault>
         ensures same { IfOk result (λ p. p ≡ flat) }
         ensures valid { IfOk result (λ p. IsValid sort.Plain p) }
@@ -135,9 +136,8 @@ impl Model for Valid {
 }
 
 impl Valid {
-    /// Takes a program that breaks no rule; another is dropped. The time is linear in the text of the program;
-    /// to know which functions reach a checkpoint it takes a few passes over the commands, two more for each
-    /// time that a chain of calls turns from earlier functions to later ones.
+    /// Takes a program that breaks no rule; another is dropped. The time is linear in the text of the
+    /// program.
     pub fn new(alloc: Global, flat: Flat) -> Result<Valid, ValidFault>
         ensures same { IfOk result (λ p. p ≡ flat) }
         ensures valid { IfOk result (λ p. IsValid sort.Rewritten p) }
