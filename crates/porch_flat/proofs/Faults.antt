@@ -1,6 +1,6 @@
 -- What is found by going through the lines is the first rule that is broken.
 use Rattle.std.proofs.Common.{◌≡◌, ◌<◌, ◌≤◌, ◌+◌, ◌-◌, ◌⊎◌, inl, inr, ℕ, zero, suc, nat_lt, Bool, true, false, if◌then◌else◌, List, [], ◌∷◌, Option, Some, None, arith, refl, ap, sym, subst, ◌∙◌}
-use Rattle.std.specs.Prelude.{slice_get, Result, Ok, Err, OnOk}
+use Rattle.std.specs.Prelude.{slice_get, Result, Ok, Err, OnOk, IfErr}
 use Rattle.std.proofs.lemmas.Option.{slice_get_within, same_Some}
 use Rattle.std.proofs.lemmas.Bool.{cases_lt}
 use Rattle.std.proofs.lemmas.Bool.Decides.{nat_tests}
@@ -11,7 +11,8 @@ use Rattle.porch_flat.specs.declared.whole.Sort.{Sort}
 use Rattle.porch_flat.specs.declared.whole.valid.ValidFault.{ValidFault}
 use Rattle.porch_flat.specs.declared.whole.valid.ValidFault.TheVariants.{NotValid, NoMemory}
 use Rattle.porch_flat.specs.whole.Lines.{Line, lines_of, line_at, line_behind}
-use Rattle.porch_flat.specs.whole.Rules.{keeps, has_main, in_line, without_main, IsValid, IsFirstBroken, IsRefused, rule_rank}
+use Rattle.porch_flat.specs.whole.Rules.{keeps, has_main, Breaks, in_line, without_main, IsValid, IsFirstBroken, IsRefused, rule_rank}
+use Rattle.porch_flat.specs.whole.Worked.{rules}
 use Rattle.porch_flat.specs.whole.Search.{first_rule, found_at, first_fault, main_fault}
 use Rattle.porch_flat.specs.inside.Walks.{Finds, IsFault, first_of}
 use Rattle.porch_flat.proofs.Walked.{found_behind, found_before}
@@ -262,3 +263,49 @@ refused_by s flat (NotValid line r) h = broken_when_some s flat line r h
 pub valid_result : {X : Type 0} (s : Sort) (flat : Flat) (r : Result X ValidFault) → Finds (first_fault s flat) r → OnOk r (IsValid s flat)
 valid_result s flat (Ok x) h = valid_when_none s flat h
 valid_result s flat (Err fault) h = tt
+
+-- one answer
+
+broken_or_valid : (s : Sort) (flat : Flat) (n : ℕ) (r : FlatRule) → IsValid s flat → Breaks s flat n r → ⊥
+broken_or_valid s flat n r valid breaks =
+    elim breaks [
+      | in_line line at fails ↦ true_or_false (valid.lines n line r at) fails
+      | without_main main behind none ↦ true_or_false valid.main none
+    ]
+
+pub none_of_valid : (s : Sort) (flat : Flat) (n : ℕ) (r : FlatRule) → IsValid s flat → IsFirstBroken s flat n r → ⊥
+none_of_valid s flat n r valid first = broken_or_valid s flat n r valid first.broken
+
+not_after : (n m a b : ℕ) → (n < m) ⊎ ((n ≡ m) × (a ≤ b)) → n ≤ m
+not_after n m a b h = elim h [ inl before ↦ omega (arith, before) | inr same ↦ omega (arith, same.0) ]
+
+pub one_line : (s : Sort) (flat : Flat) (n m : ℕ) (r q : FlatRule) → IsFirstBroken s flat n r → IsFirstBroken s flat m q → n ≡ m
+one_line s flat n m r q a b =
+    let there = not_after n m (rule_rank r) (rule_rank q) (a.first m q b.broken) in
+    let back = not_after m n (rule_rank q) (rule_rank r) (b.first n r a.broken) in
+    omega (arith, there, back)
+
+rank_within : (n m a b : ℕ) → n ≡ m → (n < m) ⊎ ((n ≡ m) × (a ≤ b)) → a ≤ b
+rank_within n m a b e h = elim h [ inl before ↦ absurd (omega (arith, e, before)) | inr same ↦ same.1 ]
+
+rule_of_rank : (r : FlatRule) → slice_get rules (rule_rank r) ≡ Some r
+rule_of_rank rule.Number = refl
+rule_of_rank rule.Kind = refl
+rule_of_rank rule.Constant = refl
+rule_of_rank rule.Jump = refl
+rule_of_rank rule.Arity = refl
+rule_of_rank rule.Modes = refl
+rule_of_rank rule.Main = refl
+
+pub one_rule : (s : Sort) (flat : Flat) (n m : ℕ) (r q : FlatRule) → IsFirstBroken s flat n r → IsFirstBroken s flat m q → r ≡ q
+one_rule s flat n m r q a b =
+    let e : n ≡ m = one_line s flat n m r q a b in
+    let there = rank_within n m (rule_rank r) (rule_rank q) e (a.first m q b.broken) in
+    let back = rank_within m n (rule_rank q) (rule_rank r) (sym e) (b.first n r a.broken) in
+    let same : rule_rank r ≡ rule_rank q = omega (arith, there, back) in
+    same_Some r q (sym (rule_of_rank r) ∙ (ap (λ k. slice_get rules k) same ∙ rule_of_rank q))
+
+pub taken_result : {X : Type 0} (s : Sort) (flat : Flat) (r : Result X ValidFault) → Finds (first_fault s flat) r → IsValid s flat → IfErr r (λ fault. fault ≡ NoMemory)
+taken_result s flat (Ok x) h valid = tt
+taken_result s flat (Err NoMemory) h valid = refl
+taken_result s flat (Err (NotValid line r)) h valid = absurd (none_of_valid s flat line r valid (broken_when_some s flat line r h))

@@ -19,7 +19,7 @@ mod walk;
 
 use crate::flat::{GlobalObject, Operand};
 pub use calls::reaching;
-pub use laws::the_search_finds_the_first;
+pub use laws::{the_first_broken_rule_is_one, the_search_finds_the_first};
 use porch_types::Types;
 use sqlite_items::Items;
 pub use valid::{Plain, Valid, ValidFault};

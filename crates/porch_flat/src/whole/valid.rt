@@ -37,6 +37,7 @@ impl From<AllocError> for ValidFault {
 fn check_plain(alloc: Global, flat: &Flat) -> Result<(), ValidFault>
     ensures valid { OnOk result (IsValid sort.Plain flat.now) }
     ensures refused { IfErr result (λ fault. IsRefused sort.Plain flat.now fault) }
+    ensures taken { IsValid sort.Plain flat.now → IfErr result (λ fault. fault ≡ NoMemory) }
 {
     find_fault(alloc, Sort::Plain, flat, &[])
 }
@@ -66,6 +67,7 @@ impl Plain {
         ensures same { IfOk result (λ p. p ≡ flat) }
         ensures valid { IfOk result (λ p. IsValid sort.Plain p) }
         ensures refused { IfErr result (λ fault. IsRefused sort.Plain flat fault) }
+        ensures taken { IsValid sort.Plain flat → IfErr result (λ fault. fault ≡ NoMemory) }
     {
         check_plain(alloc, &flat)?;
         Ok(Plain { flat })
@@ -112,6 +114,7 @@ impl Plain {
 fn check_rewritten(alloc: Global, flat: &Flat) -> Result<(), ValidFault>
     ensures valid { OnOk result (IsValid sort.Rewritten flat.now) }
     ensures refused { IfErr result (λ fault. IsRefused sort.Rewritten flat.now fault) }
+    ensures taken { IsValid sort.Rewritten flat.now → IfErr result (λ fault. fault ≡ NoMemory) }
 {
     let kept = reaching(alloc, flat)?;
     find_fault(alloc, Sort::Rewritten, flat, kept.as_slice())
@@ -142,6 +145,7 @@ impl Valid {
         ensures same { IfOk result (λ p. p ≡ flat) }
         ensures valid { IfOk result (λ p. IsValid sort.Rewritten p) }
         ensures refused { IfErr result (λ fault. IsRefused sort.Rewritten flat fault) }
+        ensures taken { IsValid sort.Rewritten flat → IfErr result (λ fault. fault ≡ NoMemory) }
     {
         check_rewritten(alloc, &flat)?;
         Ok(Valid { flat })
