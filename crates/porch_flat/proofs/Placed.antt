@@ -11,7 +11,7 @@ use Rattle.porch_flat.specs.declared.flat.Command.{Command}
 use Rattle.porch_flat.specs.Places.{is_label, place_of_label}
 use Rattle.porch_flat.specs.inside.FirstPlaces.{first_place}
 
-position_push : {X : Type 0} (p : X → Bool) (xs : List X) (y : X) → position p (xs ++ y ∷ []) ≡ first_place (position p xs) (p y) (length xs)
+pub position_push : {X : Type 0} (p : X → Bool) (xs : List X) (y : X) → position p (xs ++ y ∷ []) ≡ first_place (position p xs) (p y) (length xs)
 position_push p xs y =
     let le : position_or_len p xs ≤ length xs = prefix_len-le-length (λ x. not (p x)) xs in
     grind (arith, common_steps, nat_tests, position_or_len_push)

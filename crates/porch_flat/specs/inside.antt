@@ -1,4 +1,5 @@
 pub mod FirstPlaces
 pub mod Checked
 pub mod Forms
+pub mod Walks
 pub mod CallGraph

@@ -1,12 +1,25 @@
 //! The whole flat text as data: every command, the rules that a program may break, and the programs that
 //! break none. The program that runs uses `flat` as yet.
 
+mod arguments;
+mod arity;
 mod calls;
+mod copies;
 mod form;
+mod jumps;
+mod kinds;
+mod labels;
+mod laws;
+mod modes;
+mod numbers;
+mod rules;
+mod types;
 mod valid;
+mod walk;
 
 use crate::flat::{GlobalObject, Operand};
 pub use calls::reaching;
+pub use laws::{the_first_broken_rule_is_one, the_search_finds_the_first};
 use porch_types::Types;
 use sqlite_items::Items;
 pub use valid::{Plain, Valid, ValidFault};

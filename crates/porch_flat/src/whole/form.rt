@@ -1,7 +1,7 @@
 //! What a command is, whatever its name: one form over which every table goes.
 
 ghost use Rattle.std.specs.Prelude.{◌≡◌};
-ghost use Rattle.porch_flat.specs.whole.Form.{form_of, is_turn, is_mode, jump_of, label_of};
+ghost use Rattle.porch_flat.specs.whole.Form.{form_of, is_turn, is_mode, label_of};
 ghost use Rattle.porch_flat.specs.inside.Forms.{view_of};
 
 use crate::flat::Operand;
@@ -98,5 +98,110 @@ pub(crate) fn form_of_command(command: &Command) -> Form<'_>
         Command::Table(k, n) => Form::Table(*k, *n),
         Command::Saved(k, n) => Form::Saved(*k, *n),
         Command::Push(vs) => Form::Push(vs.as_slice()),
+    }
+}
+
+/// The label that stands here.
+pub(crate) fn label_of_command(command: &Command) -> Option<u32>
+    ensures { result ≡ label_of (form_of command.now) }
+{
+    match form_of_command(command) {
+        Form::Label(n) => Some(n),
+        Form::Move(_, _)
+        | Form::Cast(_, _)
+        | Form::Operator(_, _, _, _)
+        | Form::Complement(_, _)
+        | Form::Comparison(_, _, _, _)
+        | Form::Subobject(_, _, _)
+        | Form::Step(_, _, _, _)
+        | Form::Difference(_, _, _)
+        | Form::Load(_, _)
+        | Form::Store(_, _)
+        | Form::Copy(_, _)
+        | Form::Kill(_)
+        | Form::Allocate(_, _, _)
+        | Form::Free(_)
+        | Form::Show(_, _, _)
+        | Form::Text(_, _)
+        | Form::Jump(_)
+        | Form::Branch(_, _)
+        | Form::Turn
+        | Form::Call(_, _, _)
+        | Form::Return(_)
+        | Form::Checkpoint
+        | Form::Restore(_)
+        | Form::Table(_, _)
+        | Form::Saved(_, _)
+        | Form::Push(_) => None,
+    }
+}
+
+/// Whether the command counts a turn wherever it is reached.
+pub(crate) fn is_turn_command(command: &Command) -> bool
+    ensures { result ≡ is_turn (form_of command.now) }
+{
+    match form_of_command(command) {
+        Form::Turn => true,
+        Form::Move(_, _)
+        | Form::Cast(_, _)
+        | Form::Operator(_, _, _, _)
+        | Form::Complement(_, _)
+        | Form::Comparison(_, _, _, _)
+        | Form::Subobject(_, _, _)
+        | Form::Step(_, _, _, _)
+        | Form::Difference(_, _, _)
+        | Form::Load(_, _)
+        | Form::Store(_, _)
+        | Form::Copy(_, _)
+        | Form::Kill(_)
+        | Form::Allocate(_, _, _)
+        | Form::Free(_)
+        | Form::Show(_, _, _)
+        | Form::Text(_, _)
+        | Form::Label(_)
+        | Form::Jump(_)
+        | Form::Branch(_, _)
+        | Form::Call(_, _, _)
+        | Form::Return(_)
+        | Form::Checkpoint
+        | Form::Restore(_)
+        | Form::Table(_, _)
+        | Form::Saved(_, _)
+        | Form::Push(_) => false,
+    }
+}
+
+/// Whether the command is for saving and rebuilding frames.
+pub(crate) fn is_mode_command(command: &Command) -> bool
+    ensures { result ≡ is_mode (form_of command.now) }
+{
+    match form_of_command(command) {
+        Form::Restore(_) => true,
+        Form::Table(_, _) => true,
+        Form::Saved(_, _) => true,
+        Form::Push(_) => true,
+        Form::Move(_, _)
+        | Form::Cast(_, _)
+        | Form::Operator(_, _, _, _)
+        | Form::Complement(_, _)
+        | Form::Comparison(_, _, _, _)
+        | Form::Subobject(_, _, _)
+        | Form::Step(_, _, _, _)
+        | Form::Difference(_, _, _)
+        | Form::Load(_, _)
+        | Form::Store(_, _)
+        | Form::Copy(_, _)
+        | Form::Kill(_)
+        | Form::Allocate(_, _, _)
+        | Form::Free(_)
+        | Form::Show(_, _, _)
+        | Form::Text(_, _)
+        | Form::Label(_)
+        | Form::Jump(_)
+        | Form::Branch(_, _)
+        | Form::Turn
+        | Form::Call(_, _, _)
+        | Form::Return(_)
+        | Form::Checkpoint => false,
     }
 }

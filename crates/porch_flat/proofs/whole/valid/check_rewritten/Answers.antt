@@ -1,0 +1,6 @@
+use Rattle.porch_flat.specs.declared.whole.Sort.TheVariants as sort
+use Rattle.porch_flat.proofs.Faults.{taken_result}
+use Rattle.porch_flat.proofs.whole.valid.check_rewritten.Goals as goal
+
+pub returns-clause-taken : goal.returns-clause-taken
+returns-clause-taken c = taken_result sort.Rewritten c.args.flat.now c.find_fault.result c.find_fault.ensures
