@@ -1,0 +1,27 @@
+-- What is promised of rewriting.
+use Rattle.std.specs.Prelude.{ℕ, ◌≡◌, ◌<◌, ◌↔◌, Option, Some, None}
+use Rattle.porch_objects.specs.Meaning.{Environment, Meaning}
+use Rattle.porch_flat.specs.declared.whole.Command.{Command}
+use Rattle.porch_flat.specs.declared.whole.Flat.{Flat}
+use Rattle.porch_flat.specs.declared.whole.Sort.TheVariants as sort
+use Rattle.porch_flat.specs.whole.Form as form
+use Rattle.porch_flat.specs.whole.Form.{Form, form_of}
+use Rattle.porch_flat.specs.whole.Places.{command_at}
+use Rattle.porch_flat.specs.whole.Rules.{IsValid}
+use Rattle.porch_abstract.specs.whole.Run.{Means}
+use Rattle.porch_rewrite.specs.Rewriting.{FIRST_LABEL, rewritten}
+
+-- the label that stands in a command
+abbrev pub label_named : Form → Option ℕ
+label_named (form.label n) = Some n
+label_named (form.jump n) = Some n
+label_named (form.branch o n) = Some n
+label_named other = None
+
+-- each label of a program lies below those that are added
+abbrev pub HasRoom : Flat → Type 0
+HasRoom flat = (f place n : ℕ) (c : Command) → command_at flat f place ≡ Some c → label_named (form_of c) ≡ Some n → n < FIRST_LABEL
+
+-- The rewritten program means what the plain one does.
+abbrev pub SameMeaning : Type 0
+SameMeaning = (flat : Flat) (under : Environment) (n : ℕ) (m : Meaning) → IsValid sort.Plain flat → HasRoom flat → Means flat under n m ↔ Means (rewritten flat) under n m

@@ -1,0 +1,6 @@
+-- what rewriting makes of a program
+pub mod Rewriting
+-- what is promised of it
+pub mod Laws
+-- programs that are worked out
+pub mod Worked

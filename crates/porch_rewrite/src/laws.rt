@@ -1,0 +1,14 @@
+//! What is proved of rewriting.
+
+ghost use Rattle.porch_rewrite.specs.Laws.{SameMeaning};
+
+use porch_abstract::whole::laws::{runs_end, runs_have_one_end};
+
+/// The rewritten program means what the plain one does: output, marks, turns and ending, in each environment and to each
+/// number of turns.
+pub fn rewriting_keeps_the_meaning()
+    ensures { SameMeaning }
+{
+    runs_end();
+    runs_have_one_end();
+}

@@ -1,0 +1,7 @@
+//! Rewriting: a program is made to save and rebuild its frames, and means what it meant.
+//!
+//! `specs/Rewriting` says what is made of a program, `laws.rt` what is proved of it.
+#![tactic(auto)]
+
+pub mod laws;
+pub mod worked;
