@@ -1,9 +1,8 @@
 -- Where the commands of a function stand once it is rewritten: each behind commands that do nothing, and labels likewise.
-use Rattle.std.proofs.Common.{◌≡◌, ◌<◌, ◌≤◌, ◌⊎◌, inl, inr, ℕ, zero, suc, ◌+◌, List, [], ◌∷◌, ◌++◌, length, drop, refl, sym, ap, ◌∙◌, subst, arith, Option, Some, None, Bool, true, false}
-use Rattle.std.specs.Prelude.{slice_get, nat_lt, ◌==◌, if◌then◌else◌, ⊤}
+use Rattle.std.proofs.Common.{◌≡◌, ◌<◌, ℕ, zero, suc, ◌+◌, List, [], ◌∷◌, ◌++◌, length, drop, refl, sym, ap, ◌∙◌, subst, arith, Option, Some, None, Bool, true, false}
+use Rattle.std.specs.Prelude.{slice_get, nat_lt, if◌then◌else◌, ⊤}
 use Rattle.std.specs.List.{position, position_or_len}
 use Rattle.std.specs.Option.{option_map}
-use Rattle.std.proofs.lemmas.Grind.{common_steps}
 use Rattle.std.proofs.lemmas.Bool.Decides.{nat_tests}
 use Rattle.porch_flat.specs.declared.whole.Command.{Command}
 use Rattle.porch_flat.specs.declared.whole.Command.TheVariants as command
@@ -12,7 +11,7 @@ use Rattle.porch_flat.specs.whole.Form as form
 use Rattle.porch_flat.specs.whole.Form.{Form, form_of, label_of}
 use Rattle.porch_flat.specs.whole.Places.{is_number, place_of_label}
 use Rattle.porch_flat.specs.whole.Rewritten.{leads_to_checkpoint}
-use Rattle.porch_rewrite.specs.Rewriting.{FIRST_LABEL, has_number, numbers_in, with_marks, next_number, all_with_marks, tables, way_out, front, back, saving_commands}
+use Rattle.porch_rewrite.specs.Rewriting.{FIRST_LABEL, has_number, numbers_in, all_with_marks, tables, way_out, front, back, saving_commands}
 
 -- a command that does nothing
 abbrev pub is_silent : Form → Bool
@@ -322,9 +321,13 @@ module _ (reaching : ℕ → Bool) (f : Function) (n : ℕ) (less : n < FIRST_LA
   pub jumps_there : (to : ℕ) → place_of_label f.commands n ≡ Some to → (there : ℕ) × ((place_of_label (saving_commands reaching f) n ≡ Some there) × Saving reaching f to there)
   jumps_there to h =
       let at = label_there reaching (back reaching f) (way_out reaching f) n less no_end f.commands 0 to (sym (position_is (is_label n) f.commands) ∙ h) in
-      let far = behind_tables n 0 (numbers_in reaching f.commands) at.there (all_with_marks reaching (way_out reaching f) 0 f.commands ++ back reaching f) at.found in
-      (suc far.place, (position_is (is_label n) (saving_commands reaching f) ∙ ap (λ o. option_map (λ k. suc k) o) far.found,
-      record { silent = []; quiet = tt; before = at.number; rest = far.rest ∙ at.rest }))
+      let far = behind_tables n 0 (numbers_in reaching f.commands) at.there (all_with_marks reaching (way_out reaching f) 0 f.commands ++ back reaching f) at.found in (
+        suc far.place,
+        (
+          position_is (is_label n) (saving_commands reaching f) ∙ ap (λ o. option_map (λ k. suc k) o) far.found,
+          record { silent = []; quiet = tt; before = at.number; rest = far.rest ∙ at.rest },
+        ),
+      )
 
   pub no_jump : place_of_label f.commands n ≡ None → place_of_label (saving_commands reaching f) n ≡ None
   no_jump h =

@@ -1,15 +1,14 @@
 -- One step of the plain program and the same one of the rewritten program, whose frames stand where they fit.
-use Rattle.std.proofs.Common.{◌≡◌, ◌<◌, ◌≤◌, ◌⊎◌, inl, inr, ℕ, zero, suc, ◌+◌, ℤ, pos, List, [], ◌∷◌, ◌++◌, length, map, drop, refl, sym, ap, ◌∙◌, subst, arith, Option, Some, None, Result, Ok, Err, Bool, true, false}
+use Rattle.std.proofs.Common.{◌≡◌, ℕ, zero, suc, ◌+◌, ℤ, pos, List, [], ◌∷◌, length, map, refl, sym, ap, ◌∙◌, subst, arith, Option, Some, None, Result, Ok, Err, Bool, true, false}
 use Rattle.std.specs.Prelude.{slice_get, if◌then◌else◌, unwrap_or}
 use Rattle.std.specs.Ordering.{int_eq}
 use Rattle.std.specs.Option.{option_map, option_and_then}
-use Rattle.porch_types.specs.declared.shapes.Kind.{Kind}
 use Rattle.porch_types.specs.declared.shapes.Ty.{Ty}
 use Rattle.porch_types.specs.declared.shapes.Ty.TheVariants.{Whole, Pointer, Array, Struct}
 use Rattle.porch_types.specs.Leaves.{leaves_of}
 use Rattle.porch_values.specs.declared.acts.Act.{Act}
 use Rattle.porch_values.specs.Integers.{applied, converted, complemented}
-use Rattle.porch_objects.specs.Store.{Value, number, null, pointer, past, indeterminate, Store, left, reached_one, entered}
+use Rattle.porch_objects.specs.Store.{Value, number, null, pointer, past, indeterminate, left, reached_one, entered}
 use Rattle.porch_objects.specs.Pointers as pointers
 use Rattle.porch_objects.specs.Meaning.{Environment}
 use Rattle.porch_flat.specs.declared.flat.Operand.{Operand}
@@ -21,13 +20,13 @@ use Rattle.porch_flat.specs.declared.whole.Flat.{Flat}
 use Rattle.porch_flat.specs.Parts.{kind_of}
 use Rattle.porch_flat.specs.whole.Form as form
 use Rattle.porch_flat.specs.whole.Form.{Form, form_of, Within}
-use Rattle.porch_flat.specs.whole.Places.{CHAR, Place, commands_of, vars_of, params_of, result_of, place_of_label, pointed, type_at, type_of_var, compared_type, argument_places}
+use Rattle.porch_flat.specs.whole.Places.{CHAR, Place, vars_of, params_of, result_of, place_of_label, pointed, type_at, type_of_var, compared_type, argument_places}
 use Rattle.porch_flat.specs.whole.Rewritten.{reaches_within, reaches}
-use Rattle.porch_abstract.specs.Machine.{State, Frame, Phase, before, running, over, Next, Goes, Ends, Meets, with_phase, with_store, turned, put, determined, counted, resulted, received, returned, variables_with, frames_of}
+use Rattle.porch_abstract.specs.Machine.{State, Frame, Phase, before, running, over, Next, Goes, Ends, Meets, with_phase, with_store, turned, put, determined, counted, resulted, received, returned, variables_with}
 use Rattle.porch_abstract.specs.whole.Machine.{constant_of, operand_of, variable_of, shown, text_of, length_of, int_of, if_ok, all_determined, pointers_compare, compares, kind_in, var_type, pointee_in, forward, code_of, called, onward, at_label, subobject, compared, type_compared, argument_values, gives, does}
 use Rattle.porch_rewrite.specs.Laws.{label_named}
 use Rattle.porch_rewrite.specs.Rewriting.{with_commands, saving_commands, rewritten_function, rewritten_functions, rewritten}
-use Rattle.porch_rewrite.proofs.Arriving.{Fits, saving, behind, enters}
+use Rattle.porch_rewrite.proofs.Arriving.{Fits, saving, enters}
 
 module _ (flat : Flat) where
   abbrev pub reaching : ℕ → Bool
@@ -151,7 +150,6 @@ module _ (flat : Flat) where
       by_into : (o : Option ℕ) → Follows (received o v (with_phase (with_store s (left s.store)) (running caller callers))) (received o v (with_phase (with_store s (left s.store)) (running caller' callers')))
       by_into None = record { phase = fits_running caller caller' callers callers' fit fits; is = refl }
       by_into (Some r) = record { phase = fits_running caller caller' callers callers' fit fits; is = refl }
-
   returned_both frame frame' [] (caller ∷ callers) into x v s phase = elim x [ ]
   returned_both frame frame' (caller ∷ callers) [] into x v s phase = elim x [ ]
 
@@ -167,7 +165,7 @@ module _ (flat : Flat) where
   entry_by k into true is None at = absurd (let none : reaching k ≡ false = nobody_reaches (length flat.functions) k at in let no : true ≡ false = sym is ∙ none in cc)
 
   -- a call begins alike
-  entry : (k : ℕ) (into : Option ℕ) → FrameFits (record { function = k; next = 0; into = into }) (record { function = k; next = 0; into = into })
+  pub entry : (k : ℕ) (into : Option ℕ) → FrameFits (record { function = k; next = 0; into = into }) (record { function = k; next = 0; into = into })
   entry k into = entry_by k into (reaching k) refl (slice_get flat.functions k) refl
 
   module _ (under : Environment) (function : ℕ) (into : Option ℕ) (next there : ℕ) (callers callers' : List Frame) (fits : CallersFit callers callers') where
@@ -180,7 +178,7 @@ module _ (flat : Flat) where
     same_kind : (v : ℕ) → kind_in flat (at next) v ≡ kind_in made (at there) v
     same_kind v = ap (λ o. kind_of (type_at flat o)) (same_type v)
 
-    same_pointee : (v : ℕ) → pointee_in flat (at next) v ≡ pointee_in made (at there) v
+    pub same_pointee : (v : ℕ) → pointee_in flat (at next) v ≡ pointee_in made (at there) v
     same_pointee v = ap (λ o. unwrap_or (pointed (type_at flat o)) 0) (same_type v)
 
     same_compared : (a b : Operand) → type_compared flat under (at next) callers a b ≡ type_compared made under (at there) callers' a b
@@ -212,7 +210,7 @@ module _ (flat : Flat) where
       same_operand ty ty' (Var v) same = refl
       same_operand ty ty' (Constant z) same = ap (λ ty. constant_of (type_at flat ty) z) same
 
-      plain_operand : (o : Operand) → operand_of flat None o s ≡ operand_of made None o t
+      pub plain_operand : (o : Operand) → operand_of flat None o s ≡ operand_of made None o t
       plain_operand o = same_operand None None o refl
 
       both_gives : (o : Option Operand) → Both (gives flat under (at next) callers o s) (gives made under (at there) callers' o t)
@@ -241,13 +239,13 @@ module _ (flat : Flat) where
       enters_both : (k : ℕ) (r : Option ℕ) (xs : List Value) → Both (Goes (called flat k xs r (with_phase s (running (at (next + 1)) callers)))) (Goes (called made k xs r (with_phase s (running (at (there + 1)) callers'))))
       enters_both k r xs =
           subst (λ vars. Both (Goes (called flat k xs r (with_phase s (running (at (next + 1)) callers))))
-              (Goes (record {
-                phase = running (record { function = k; next = 0; into = r }) (at (there + 1) ∷ callers');
-                store = entered s.store (variables_with flat.types vars xs);
-                output = s.output;
-                turns = s.turns + 1;
-                taken = s.taken;
-              }))) (same_vars k)
+          (Goes (record {
+            phase = running (record { function = k; next = 0; into = r }) (at (there + 1) ∷ callers');
+            store = entered s.store (variables_with flat.types vars xs);
+            output = s.output;
+            turns = s.turns + 1;
+            taken = s.taken;
+          }))) (same_vars k)
           (record {
             phase = fits_running (record { function = k; next = 0; into = r }) (record { function = k; next = 0; into = r }) (at (next + 1) ∷ callers) (at (there + 1) ∷ callers') (entry k r)
                 (one_caller (at (next + 1)) (at (there + 1)) callers callers' onward_fits fits);
@@ -319,3 +317,11 @@ module _ (flat : Flat) where
       both_do (form.table k n) j = on s
       both_do (form.saved k n) j = on s
       both_do (form.push vs) j = on s
+
+  -- behind the last command both return
+  pub ends_both : (under : Environment) (function : ℕ) (into : Option ℕ) (next there : ℕ) (callers callers' : List Frame) → CallersFit callers callers' → (s : State)
+      → Both (gives flat under (record { function = function; next = next; into = into }) callers None s)
+      (gives made under (record { function = function; next = there; into = into }) callers' None (with_phase s (running (record { function = function; next = there; into = into }) callers')))
+  ends_both under function into next there callers callers' fits s =
+      returned_both (record { function = function; next = next; into = into }) (record { function = function; next = there; into = into }) callers callers' refl fits indeterminate s
+      (running (record { function = function; next = there; into = into }) callers')

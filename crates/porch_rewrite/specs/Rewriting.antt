@@ -1,7 +1,7 @@
 -- How a program is made to save and rebuild its frames. Only functions that reach a checkpoint change: behind the
 -- commands that rebuild a frame stand their own ones, each CALL or CHECKPOINT that may reach a checkpoint between its label
 -- and the way out, and last the commands that save a frame.
-use Rattle.std.specs.Prelude.{ℕ, zero, suc, ◌+◌, ◌^◌, Bool, true, false, if◌then◌else◌, List, [], ◌∷◌, ◌++◌, length, count_by}
+use Rattle.std.specs.Prelude.{ℕ, zero, suc, ◌+◌, ◌^◌, Bool, if◌then◌else◌, List, [], ◌∷◌, ◌++◌, length, count_by}
 use Rattle.std.specs.List.{range_with_len}
 use Rattle.porch_flat.specs.declared.whole.Command.{Command}
 use Rattle.porch_flat.specs.declared.whole.Command.TheVariants as command

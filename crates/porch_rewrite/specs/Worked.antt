@@ -1,7 +1,7 @@
 -- Programs that are worked out.
-use Rattle.std.specs.Prelude.{ℕ, ◌+◌, pos, ◌≡◌, List, [], ◌∷◌, codes, Option, Some, None, true}
+use Rattle.std.specs.Prelude.{ℕ, ◌+◌, pos, ◌≡◌, List, [], ◌∷◌, codes, Some, None, true}
 use Rattle.porch_types.specs.Leaves.{kind_types}
-use Rattle.porch_flat.specs.declared.flat.Operand.TheVariants.{Var, Constant}
+use Rattle.porch_flat.specs.declared.flat.Operand.TheVariants.{Constant}
 use Rattle.porch_flat.specs.declared.whole.Command.{Command}
 use Rattle.porch_flat.specs.declared.whole.Command.TheVariants as command
 use Rattle.porch_flat.specs.declared.whole.Function.{Function}
