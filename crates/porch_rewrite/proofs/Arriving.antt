@@ -65,7 +65,7 @@ drop_append : {X : Type 0} (xs ys : List X) → drop (length xs) (xs ++ ys) ≡ 
 drop_append [] ys = refl
 drop_append (x ∷ xs) ys = drop_append xs ys
 
-append_more : {X : Type 0} (xs ys zs : List X) → (xs ++ ys) ++ zs ≡ xs ++ (ys ++ zs)
+pub append_more : {X : Type 0} (xs ys zs : List X) → (xs ++ ys) ++ zs ≡ xs ++ (ys ++ zs)
 append_more [] ys zs = refl
 append_more (x ∷ xs) ys zs = ap (λ l. x ∷ l) (append_more xs ys zs)
 

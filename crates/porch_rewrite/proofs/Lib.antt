@@ -1,3 +1,4 @@
 pub mod Arriving
+pub mod Filling
 pub mod Runs
 pub mod Steps

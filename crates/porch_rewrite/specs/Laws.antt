@@ -1,12 +1,12 @@
 -- What is promised of rewriting.
-use Rattle.std.specs.Prelude.{ℕ, ◌≡◌, ◌<◌, ◌↔◌, Option, Some, None}
+use Rattle.std.specs.Prelude.{ℕ, ◌≡◌, ◌<◌, ◌≤◌, ◌^◌, ◌↔◌, length, Bool, true, false, count_by, slice_get, Option, Some, None}
 use Rattle.porch_objects.specs.Meaning.{Environment, Meaning}
 use Rattle.porch_flat.specs.declared.whole.Command.{Command}
 use Rattle.porch_flat.specs.declared.whole.Flat.{Flat}
 use Rattle.porch_flat.specs.declared.whole.Sort.TheVariants as sort
 use Rattle.porch_flat.specs.whole.Form as form
 use Rattle.porch_flat.specs.whole.Form.{Form, form_of}
-use Rattle.porch_flat.specs.whole.Places.{command_at}
+use Rattle.porch_flat.specs.whole.Places.{command_at, commands_of, vars_of}
 use Rattle.porch_flat.specs.whole.Rules.{IsValid}
 use Rattle.porch_abstract.specs.whole.Run.{Means}
 use Rattle.porch_rewrite.specs.Rewriting.{FIRST_LABEL, rewritten}
@@ -25,3 +25,15 @@ HasRoom flat = (f place n : ℕ) (c : Command) → command_at flat f place ≡ S
 -- The rewritten program means what the plain one does.
 abbrev pub SameMeaning : Type 0
 SameMeaning = (flat : Flat) (under : Environment) (n : ℕ) (m : Meaning) → IsValid sort.Plain flat → HasRoom flat → Means flat under n m ↔ Means (rewritten flat) under n m
+
+-- a command that takes a label of a function: its own, or one that is added
+abbrev pub takes_label : Form → Bool
+takes_label (form.label n) = true
+takes_label (form.call into function arguments) = true
+takes_label form.checkpoint = true
+takes_label other = false
+
+-- in each function there are fewer of them than labels can be added, and no more variables than have numbers
+pub record HasFew (flat : Flat) : Type 0 where
+  pub labels : (f : ℕ) → count_by (λ c. takes_label (form_of c)) (commands_of (slice_get flat.functions f)) < FIRST_LABEL
+  pub variables : (f : ℕ) → length (vars_of (slice_get flat.functions f)) ≤ 2 ^ 31

@@ -4,3 +4,5 @@ pub mod Rewriting
 pub mod Laws
 -- programs that are worked out
 pub mod Worked
+-- what only private contracts cite
+pub mod inside
