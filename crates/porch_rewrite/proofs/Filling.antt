@@ -116,7 +116,7 @@ few_from flat few reaching = λ k d inside.
     }
 
 -- what is kept of the functions decides alike
-leads_alike : (p q : ℕ → Bool) → ((n : ℕ) → p n ≡ q n) → (f : Form) → leads_to_checkpoint p f ≡ leads_to_checkpoint q f
+pub leads_alike : (p q : ℕ → Bool) → ((n : ℕ) → p n ≡ q n) → (f : Form) → leads_to_checkpoint p f ≡ leads_to_checkpoint q f
 leads_alike p q same (form.call r g os) = same g
 leads_alike p q same (form.label k) = refl
 leads_alike p q same form.checkpoint = refl

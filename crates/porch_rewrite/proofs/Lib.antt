@@ -1,4 +1,5 @@
 pub mod Arriving
 pub mod Filling
 pub mod Runs
+pub mod SameReach
 pub mod Steps

@@ -37,3 +37,7 @@ takes_label other = false
 pub record HasFew (flat : Flat) : Type 0 where
   pub labels : (f : ℕ) → count_by (λ c. takes_label (form_of c)) (commands_of (slice_get flat.functions f)) < FIRST_LABEL
   pub variables : (f : ℕ) → length (vars_of (slice_get flat.functions f)) ≤ 2 ^ 31
+
+-- The rewritten program keeps every rule where the plain one does.
+abbrev pub KeepsRules : Type 0
+KeepsRules = (flat : Flat) → IsValid sort.Plain flat → HasRoom flat → HasFew flat → IsValid sort.Rewritten (rewritten flat)

@@ -60,7 +60,8 @@ fn rewritten_functions(
     functions: Items<Function>,
 ) -> Result<Items<Function>, AllocError>
     requires { All (IsFew (marked reached.now)) functions }
-    ensures { IfOk result (λ made. made ≡ rewriting.rewritten_functions (marked reached.now) 0 functions) }
+    ensures { IfOk result
+        (λ made. made ≡ rewriting.rewritten_functions (marked reached.now) 0 functions) }
 {
     let mut turned = turned_round(alloc, functions)?;
     let mut made = Items::new(alloc);
@@ -90,7 +91,8 @@ fn rewritten_function(
     function: Function,
 ) -> Result<Function, AllocError>
     requires { IsFew (marked reached.now) function }
-    ensures { IfOk result (λ made. made ≡ rewriting.rewritten_function (marked reached.now) number function) }
+    ensures { IfOk result
+        (λ made. made ≡ rewriting.rewritten_function (marked reached.now) number function) }
 {
     if !is_marked(reached, number) {
         return Ok(function);

@@ -1,6 +1,6 @@
 //! What is proved of rewriting.
 
-ghost use Rattle.porch_rewrite.specs.Laws.{SameMeaning};
+ghost use Rattle.porch_rewrite.specs.Laws.{KeepsRules, SameMeaning};
 
 use porch_abstract::whole::laws::{runs_end, runs_have_one_end};
 
@@ -12,3 +12,8 @@ pub fn rewriting_keeps_the_meaning()
     runs_end();
     runs_have_one_end();
 }
+
+/// The rewritten program keeps every rule, that on commands for saving and rebuilding frames among them.
+pub fn rewriting_keeps_the_rules()
+    ensures { KeepsRules }
+{}

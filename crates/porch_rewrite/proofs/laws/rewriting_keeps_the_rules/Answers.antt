@@ -1,0 +1,5 @@
+use Rattle.porch_rewrite.proofs.SameReach.{same_reach}
+use Rattle.porch_rewrite.proofs.laws.rewriting_keeps_the_rules.Goals as goal
+
+pub returns : goal.returns
+returns c = ?
