@@ -60,11 +60,11 @@ abbrev pub passes : {X : Type 0} → (X → Bool) → Option X → Bool
 passes test None = false
 passes test (Some x) = test x
 
-module _ (vars : ℕ) (forms : List Form) where
-  -- the label that stands last
-  abbrev pub last_label : Option ℕ
-  last_label = option_and_then label_of (slice_get forms (length forms - 2))
+-- the label that stands last
+abbrev pub last_label : List Form → Option ℕ
+last_label forms = option_and_then label_of (slice_get forms (length forms - 2))
 
+module _ (vars : ℕ) (forms : List Form) where
   -- Call number k, which stands at a place: its table names the label in front of it, and behind it the
   -- frame is left for the last label.
   abbrev pub is_marked : (k place : ℕ) → Bool
@@ -72,7 +72,7 @@ module _ (vars : ℕ) (forms : List Form) where
       nat_le 1 place
       && same_number (option_and_then (table_label k) (slice_get forms k))
       (option_and_then label_of (slice_get forms (place - 1)))
-      && same_number (option_and_then (saved_label k) (slice_get forms (place + 1))) last_label
+      && same_number (option_and_then (saved_label k) (slice_get forms (place + 1))) (last_label forms)
 
   abbrev pub are_marked : ℕ → List ℕ → Bool
   are_marked k [] = true
@@ -80,15 +80,15 @@ module _ (vars : ℕ) (forms : List Form) where
 
   -- the rest of it, for so many call numbers: no other command is for saving and rebuilding
   abbrev pub has_ends : ℕ → Bool
-  has_ends count =
+  has_ends zero = count_by is_mode forms == 0
+  has_ends (suc count) =
       passes (restores vars) (slice_get forms 0)
       && passes (pushes vars) (slice_get forms (length forms - 1))
-      && count_by is_mode forms == 2 * count + 2
+      && count_by is_mode forms == 2 * suc count + 2
 
   -- for the places of its call numbers
   abbrev pub is_marked_at : List ℕ → Bool
-  is_marked_at [] = count_by is_mode forms == 0
-  is_marked_at (place ∷ places) = are_marked 1 (place ∷ places) && has_ends (length (place ∷ places))
+  is_marked_at places = are_marked 1 places && has_ends (length places)
 
 -- the function saves and rebuilds its frames where it reaches a checkpoint, and only there
 abbrev pub is_rewritten : Flat → Function → Bool

@@ -271,9 +271,12 @@ keeps_arity flat line = true
 
 -- Modes
 
+abbrev pub has_modes : Sort → Flat → Function → Bool
+has_modes sort.Plain flat f = is_plain f
+has_modes sort.Rewritten flat f = is_rewritten flat f
+
 abbrev pub keeps_modes : Sort → Flat → Line → Bool
-keeps_modes sort.Plain flat (function_line n f) = is_plain f
-keeps_modes sort.Rewritten flat (function_line n f) = is_rewritten flat f
+keeps_modes s flat (function_line n f) = has_modes s flat f
 keeps_modes s flat line = true
 
 -- Main
