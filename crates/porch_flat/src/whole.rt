@@ -6,7 +6,7 @@ mod form;
 mod valid;
 
 use crate::flat::{GlobalObject, Operand};
-pub use calls::reaching;
+pub use calls::{reaching, reaching_is_least};
 use porch_types::Types;
 use sqlite_items::Items;
 pub use valid::{Plain, Valid, ValidFault};
