@@ -3,4 +3,5 @@ pub mod Filling
 pub mod Lines
 pub mod Runs
 pub mod SameReach
+pub mod SameRules
 pub mod Steps

@@ -58,10 +58,10 @@ module _ (flat : Flat) where
   pub same_vars : (k : ℕ) → vars_of (slice_get flat.functions k) ≡ vars_of (slice_get made.functions k)
   same_vars k = same_of vars_of k (λ f cs. refl)
 
-  same_params : (k : ℕ) → params_of (slice_get flat.functions k) ≡ params_of (slice_get made.functions k)
+  pub same_params : (k : ℕ) → params_of (slice_get flat.functions k) ≡ params_of (slice_get made.functions k)
   same_params k = same_of params_of k (λ f cs. refl)
 
-  same_result : (k : ℕ) → result_of (slice_get flat.functions k) ≡ result_of (slice_get made.functions k)
+  pub same_result : (k : ℕ) → result_of (slice_get flat.functions k) ≡ result_of (slice_get made.functions k)
   same_result k = same_of result_of k (λ f cs. refl)
 
   -- the frames of the rewritten program that stand for those of the plain one
