@@ -61,7 +61,7 @@ drop_all [] (suc i) h = refl
 drop_all (y ∷ xs) zero h = absurd (cc)
 drop_all (y ∷ xs) (suc i) h = drop_all xs i h
 
-drop_append : {X : Type 0} (xs ys : List X) → drop (length xs) (xs ++ ys) ≡ ys
+pub drop_append : {X : Type 0} (xs ys : List X) → drop (length xs) (xs ++ ys) ≡ ys
 drop_append [] ys = refl
 drop_append (x ∷ xs) ys = drop_append xs ys
 
@@ -159,7 +159,7 @@ module _ (reaching : ℕ → Bool) (f : Function) where
 
 -- labels
 
-abbrev find : (Command → Bool) → List Command → Option ℕ
+abbrev pub find : (Command → Bool) → List Command → Option ℕ
 find p [] = None
 find p (c ∷ cs) = if p c then Some 0 else option_map (λ k. suc k) (find p cs)
 
@@ -171,17 +171,17 @@ position_by p c cs false is h = rw (is, ← h) (moved (position_or_len p cs) (le
     moved k n true is = let same : nat_lt (1 + k) (suc n) ≡ true = grind (arith, nat_tests, is) in let one : 1 + k ≡ suc k = omega arith in rw (is, same) (ap (λ j. Some j) one)
     moved k n false is = let same : nat_lt (1 + k) (suc n) ≡ false = grind (arith, nat_tests, is) in rw (is, same) refl
 
-position_is : (p : Command → Bool) (cs : List Command) → position p cs ≡ find p cs
+pub position_is : (p : Command → Bool) (cs : List Command) → position p cs ≡ find p cs
 position_is p [] = refl
 position_is p (c ∷ cs) = position_by p c cs (p c) refl (position_is p cs)
 
-abbrev is_label : ℕ → Command → Bool
+abbrev pub is_label : ℕ → Command → Bool
 is_label n c = is_number n (label_of (form_of c))
 
 not_ahead : (n k : ℕ) → n < FIRST_LABEL → is_label n (command.Label (FIRST_LABEL + k)) ≡ false
 not_ahead n k less = grind (arith, nat_tests, less)
 
-unnumbered_form : (reaching : ℕ → Bool) (n : ℕ) (f : Form) → is_number n (label_of f) ≡ true → leads_to_checkpoint reaching f ≡ false
+pub unnumbered_form : (reaching : ℕ → Bool) (n : ℕ) (f : Form) → is_number n (label_of f) ≡ true → leads_to_checkpoint reaching f ≡ false
 unnumbered_form reaching n (form.label k) h = refl
 unnumbered_form reaching n (form.call r g os) h = absurd (cc)
 unnumbered_form reaching n form.checkpoint h = absurd (cc)
@@ -317,7 +317,24 @@ module _ (reaching : ℕ → Bool) (f : Function) (n : ℕ) (less : n < FIRST_LA
   no_end : find (is_label n) (back reaching f) ≡ None
   no_end = rw (not_ahead n (numbers_in reaching f.commands) less) refl
 
-  -- a label is found where it stood
+  -- a label is found where it stood, with the commands that follow it
+  pub record Found (to : ℕ) : Type 0 where
+    pub there : ℕ
+    pub found : place_of_label (saving_commands reaching f) n ≡ Some there
+    pub before : ℕ
+    pub rest : drop there (saving_commands reaching f) ≡ all_with_marks reaching (way_out reaching f) before (drop to f.commands) ++ back reaching f
+
+  pub label_found : (to : ℕ) → place_of_label f.commands n ≡ Some to → Found to
+  label_found to h =
+      let at = label_there reaching (back reaching f) (way_out reaching f) n less no_end f.commands 0 to (sym (position_is (is_label n) f.commands) ∙ h) in
+      let far = behind_tables n 0 (numbers_in reaching f.commands) at.there (all_with_marks reaching (way_out reaching f) 0 f.commands ++ back reaching f) at.found in
+      record {
+        there = suc far.place;
+        found = position_is (is_label n) (saving_commands reaching f) ∙ ap (λ o. option_map (λ k. suc k) o) far.found;
+        before = at.number;
+        rest = far.rest ∙ at.rest;
+      }
+
   pub jumps_there : (to : ℕ) → place_of_label f.commands n ≡ Some to → (there : ℕ) × ((place_of_label (saving_commands reaching f) n ≡ Some there) × Saving reaching f to there)
   jumps_there to h =
       let at = label_there reaching (back reaching f) (way_out reaching f) n less no_end f.commands 0 to (sym (position_is (is_label n) f.commands) ∙ h) in

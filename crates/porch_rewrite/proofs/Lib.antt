@@ -4,4 +4,5 @@ pub mod Lines
 pub mod Runs
 pub mod SameReach
 pub mod SameRules
+pub mod Sizes
 pub mod Steps
