@@ -210,7 +210,7 @@ unnumbered_form reaching n (form.table k l) h = refl
 unnumbered_form reaching n (form.saved k l) h = refl
 unnumbered_form reaching n (form.push vs) h = refl
 
-some_suc : (o : Option ℕ) (to : ℕ) → option_map (λ k. suc k) o ≡ Some to → (k : ℕ) × ((o ≡ Some k) × (to ≡ suc k))
+pub some_suc : (o : Option ℕ) (to : ℕ) → option_map (λ k. suc k) o ≡ Some to → (k : ℕ) × ((o ≡ Some k) × (to ≡ suc k))
 some_suc None to h = absurd (cc)
 some_suc (Some k) to h = (k, (refl, cc))
 

@@ -1,6 +1,7 @@
 -- How many commands stand for those of a function from one on; so which of two places comes first.
 use Rattle.std.proofs.Common.{◌≡◌, ◌<◌, ◌≤◌, ◌⊎◌, inl, inr, ℕ, zero, suc, ◌+◌, List, [], ◌∷◌, ◌++◌, length, drop, refl, sym, ap, ◌∙◌, subst, arith, Bool, true, false, Option, Some, None}
 use Rattle.std.specs.Prelude.{slice_get, ◌-◌, nat_lt, ◌||◌, ◌&&◌, if◌then◌else◌}
+use Rattle.std.specs.Option.{option_map}
 use Rattle.std.proofs.lemmas.Bool.Decides.{nat_tests}
 use Rattle.std.proofs.lemmas.Grind.{common_steps}
 use Rattle.porch_flat.specs.declared.whole.Command.{Command}
@@ -11,7 +12,7 @@ use Rattle.porch_flat.specs.whole.Places.{is_number, place_of_label}
 use Rattle.porch_flat.specs.whole.Rewritten.{passes, leads_to_checkpoint, same_number}
 use Rattle.porch_flat.specs.whole.Rules.{may_lead, leads_well, stands_once}
 use Rattle.porch_rewrite.specs.Rewriting.{FIRST_LABEL, has_number, with_marks, next_number, all_with_marks, way_out, back, saving_commands, with_commands}
-use Rattle.porch_rewrite.proofs.Arriving.{is_label, drop_here, drop_some, Found, label_found, unnumbered_form}
+use Rattle.porch_rewrite.proofs.Arriving.{is_label, find, position_is, some_suc, drop_next, drop_here, drop_some, Found, label_found, unnumbered_form}
 
 length_append : {X : Type 0} (xs ys : List X) → length (xs ++ ys) ≡ length xs + length ys
 length_append xs ys = grind (arith, common_steps)
@@ -126,3 +127,63 @@ module _ (reaching : ℕ → Bool) where
     label_once n less i q before found at =
         let there = label_found reaching f n less i found in
         there.found ∙ ap (λ k. Some k) (same_place there.there q there.before before (drop i f.commands) there.rest at)
+
+    passed : (o : Option Command) (test : Command → Bool) → passes test o ≡ true → (c : Command) × ((o ≡ Some c) × (test c ≡ true))
+    passed None test h = absurd (cc)
+    passed (Some c) test h = (c, (refl, h))
+
+    found_by : (p : Command → Bool) (cs : List Command) (to : ℕ) → find p cs ≡ Some to → (c : Command) × ((slice_get cs to ≡ Some c) × (p c ≡ true))
+    found_by p [] to h = absurd (cc)
+    found_by p (c ∷ cs) to h = found_first (p c) refl (λ k g. found_by p cs k g)
+      where
+        found_first : (b : Bool) → p c ≡ b → ((k : ℕ) → find p cs ≡ Some k → (d : Command) × ((slice_get cs k ≡ Some d) × (p d ≡ true))) → (d : Command) × ((slice_get (c ∷ cs) to ≡ Some d) × (p d ≡ true))
+        found_first true is more =
+            let first : 0 ≡ to = (let at : Some 0 ≡ Some to = subst (λ b. (if b then Some 0 else option_map (λ k. suc k) (find p cs)) ≡ Some to) is h in cc) in
+            (c, (subst (λ k. slice_get (c ∷ cs) k ≡ Some c) first refl, is))
+        found_first false is more =
+            let at = some_suc (find p cs) to (subst (λ b. (if b then Some 0 else option_map (λ k. suc k) (find p cs)) ≡ Some to) is h) in
+            let rest = more at.0 at.1.0 in
+            (rest.0, (subst (λ k. slice_get (c ∷ cs) k ≡ Some rest.0) (sym at.1.1) rest.1.0, rest.1.1))
+
+    abbrev f' : Function
+    f' = with_commands f made
+
+    turn_behind : (n : ℕ) → n < FIRST_LABEL → (to there before : ℕ) → place_of_label f.commands n ≡ Some to → Rests there before (drop to f.commands)
+        → passes (λ c. is_turn (form_of c)) (slice_get f.commands (to + 1)) ≡ true → passes (λ c. is_turn (form_of c)) (slice_get made (there + 1)) ≡ true
+    turn_behind n less to there before found at turn =
+        let label = found_by (is_label n) f.commands to (sym (position_is (is_label n) f.commands) ∙ found) in
+        let next = passed (slice_get f.commands (to + 1)) (λ c. is_turn (form_of c)) turn in
+        let plain : has_number reaching label.0 ≡ false = unnumbered_form reaching n (form_of label.0) label.1.1 in
+        let plain' : has_number reaching next.0 ≡ false = turn_unnumbered reaching (form_of next.0) next.1.1 in
+        let own : drop to f.commands ≡ label.0 ∷ next.0 ∷ drop (to + 1 + 1) f.commands = drop_some f.commands to label.0 label.1.0 ∙ ap (λ l. label.0 ∷ l) (drop_some f.commands (to + 1) next.0 next.1.0) in
+        let two : drop there made ≡ label.0 ∷ next.0 ∷ (all_with_marks reaching (way_out reaching f) before (drop (to + 1 + 1) f.commands) ++ back reaching f) =
+            at ∙ ap (λ cs. all_with_marks reaching (way_out reaching f) before cs ++ back reaching f) own ∙ (rw (plain, plain') refl) in
+        let here = drop_here made (there + 1) next.0 (all_with_marks reaching (way_out reaching f) before (drop (to + 1 + 1) f.commands) ++ back reaching f) (drop_next made there label.0 (next.0 ∷ (all_with_marks reaching (way_out reaching f) before (drop (to + 1 + 1) f.commands) ++ back reaching f)) two) in
+        rw here next.1.1
+
+    may_lead_there : (n : ℕ) → n < FIRST_LABEL → (i q : ℕ) (c : Command) (rest : List Command) → drop q made ≡ c ∷ rest → size (drop (i + 1) f.commands) + 2 ≤ length rest
+        → (o : Option ℕ) → place_of_label f.commands n ≡ o → may_lead f i o ≡ true → may_lead f' q (place_of_label made n) ≡ true
+    may_lead_there n less i q c rest here long None found leads = absurd (cc)
+    may_lead_there n less i q c rest here long (Some to) found leads =
+        let there = label_found reaching f n less to found in
+        rw there.found (by_order (nat_lt i to) refl there.there there.before there.rest)
+      where
+        by_order : (b : Bool) → nat_lt i to ≡ b → (there before : ℕ) → Rests there before (drop to f.commands) → nat_lt q there || passes (λ c. is_turn (form_of c)) (slice_get made (there + 1)) ≡ true
+        by_order true is there before at =
+            let ahead : i < to = grind (arith, nat_tests, is) in
+            let later = later_there q there before i to c rest here long ahead at in
+            let test : nat_lt q there ≡ true = grind (arith, nat_tests, later) in
+            rw test refl
+        by_order false is there before at =
+            let turn : passes (λ c. is_turn (form_of c)) (slice_get f.commands (to + 1)) ≡ true = subst (λ b. b || passes (λ c. is_turn (form_of c)) (slice_get f.commands (to + 1)) ≡ true) is leads in
+            either (nat_lt q there) (passes (λ c. is_turn (form_of c)) (slice_get made (there + 1))) (turn_behind n less to there before found at turn)
+          where
+            either : (a b : Bool) → b ≡ true → a || b ≡ true
+            either true b h = refl
+            either false b h = h
+
+    -- a jump leads where it may
+    pub leads_there : (o : Option ℕ) → ((n : ℕ) → o ≡ Some n → n < FIRST_LABEL) → (i q : ℕ) (c : Command) (rest : List Command) → drop q made ≡ c ∷ rest → size (drop (i + 1) f.commands) + 2 ≤ length rest
+        → leads_well f i o ≡ true → leads_well f' q o ≡ true
+    leads_there None less i q c rest here long leads = refl
+    leads_there (Some n) less i q c rest here long leads = may_lead_there n (less n refl) i q c rest here long (place_of_label f.commands n) refl leads
