@@ -82,7 +82,7 @@ takes_one reaching (form.table k l) h = absurd (cc)
 takes_one reaching (form.saved k l) h = absurd (cc)
 takes_one reaching (form.push vs) h = absurd (cc)
 
-abbrev tally : {X : Type 0} → (X → Bool) → List X → ℕ
+abbrev pub tally : {X : Type 0} → (X → Bool) → List X → ℕ
 tally p [] = 0
 tally p (x ∷ xs) = if p x then 1 + tally p xs else tally p xs
 
@@ -96,7 +96,7 @@ all_less : {X : Type 0} (p q : X → Bool) (xs : List X) → ((x : X) → p x �
 all_less p q [] weaker = omega arith
 all_less p q (x ∷ xs) weaker = tally_less p q x xs (p x) (q x) refl refl (weaker x) (all_less p q xs weaker)
 
-tally_is : {X : Type 0} (p : X → Bool) (xs : List X) → tally p xs ≡ count_by p xs
+pub tally_is : {X : Type 0} (p : X → Bool) (xs : List X) → tally p xs ≡ count_by p xs
 tally_is p xs = is_count_by (tally p) p refl (λ x xs. refl) xs
 
 count_less : {X : Type 0} (p q : X → Bool) (xs : List X) → ((x : X) → p x ≡ true → q x ≡ true) → count_by p xs ≤ count_by q xs

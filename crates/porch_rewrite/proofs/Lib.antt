@@ -1,5 +1,6 @@
 pub mod Arriving
 pub mod Filling
+pub mod Kept
 pub mod Lines
 pub mod Runs
 pub mod SameReach

@@ -53,7 +53,7 @@ no_head : (flat : Flat) (number : ℕ) (b : Bool) → nat_lt number 3 ≡ b → 
 no_head flat number true is line h = absurd (let none : line_at flat number ≡ None = rw is refl in let no : None ≡ Some line = sym none ∙ h in cc)
 no_head flat number false is line h = (refl, subst (λ b. (if b then None else slice_get (lines_of flat) (number - 3)) ≡ Some line) is h)
 
-abbrev Keeps : (program : Flat) → (rewritten : Bool) → Line → Type 0
+abbrev pub Keeps : (program : Flat) → (rewritten : Bool) → Line → Type 0
 Keeps program true line = (r : FlatRule) → keeps sort.Rewritten program r line ≡ true
 Keeps program false line = (r : FlatRule) → keeps sort.Plain program r line ≡ true
 

@@ -14,7 +14,7 @@ use Rattle.porch_flat.specs.whole.Rules.{may_lead, leads_well, stands_once}
 use Rattle.porch_rewrite.specs.Rewriting.{FIRST_LABEL, has_number, with_marks, next_number, all_with_marks, way_out, back, saving_commands, with_commands}
 use Rattle.porch_rewrite.proofs.Arriving.{is_label, find, position_is, some_suc, drop_next, drop_here, drop_some, Found, label_found, unnumbered_form}
 
-length_append : {X : Type 0} (xs ys : List X) → length (xs ++ ys) ≡ length xs + length ys
+pub length_append : {X : Type 0} (xs ys : List X) → length (xs ++ ys) ≡ length xs + length ys
 length_append xs ys = grind (arith, common_steps)
 
 length_drop : {X : Type 0} (n : ℕ) (xs : List X) → length (drop n xs) ≡ length xs - n
@@ -97,7 +97,7 @@ module _ (reaching : ℕ → Bool) where
         ∙ ap (λ k. k + 2) (size_is (way_out reaching f) before cs)
 
     -- commands stand from a place on
-    abbrev Rests : ℕ → ℕ → List Command → Type 0
+    abbrev pub Rests : ℕ → ℕ → List Command → Type 0
     Rests place before cs = drop place made ≡ all_with_marks reaching (way_out reaching f) before cs ++ back reaching f
 
     -- a later command of the function stands later
