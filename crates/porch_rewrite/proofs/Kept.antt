@@ -423,3 +423,29 @@ module _ (flat : Flat) (number : ℕ) (f : Function) (at_number : slice_get flat
           subst (λ l. Lines (length prefix) l) (sym shape)
           (old_kept i (length prefix) c kept.0 (jump_kept i (length prefix) before c (behind before cs) place long here kept.0 (λ n label. stands)),
           subst (λ k. Lines k (behind before cs)) one rest)
+
+  tables_kept : (count before place : ℕ) (rest : List Command) → before + count ≤ numbers_in reaching f.commands → Lines (place + count) rest → Lines place (tables before count ++ rest)
+  tables_kept zero before place rest le kept = let none : place + 0 ≡ place = omega arith in subst (λ k. Lines k rest) none kept
+  tables_kept (suc count) before place rest le kept =
+      let same : place + suc count ≡ place + 1 + count = omega arith in
+      (table_kept place (before + 1) (FIRST_LABEL + before) (omega (arith, few, le)) (omega (arith, few, le)),
+      tables_kept count (before + 1) (place + 1) rest (omega (arith, le)) (subst (λ k. Lines k rest) same kept))
+
+  tables_unlabelled : (n before count : ℕ) → find (is_label n) (tables before count) ≡ None
+  tables_unlabelled n before zero = refl
+  tables_unlabelled n before (suc count) = ap (λ o. option_map (λ k. suc k) o) (tables_unlabelled n (before + 1) count)
+
+  front_clear : Clear 0 (front reaching f)
+  front_clear k le = ap (λ o. option_map (λ k. suc k) o) (tables_unlabelled (FIRST_LABEL + k) 0 (numbers_in reaching f.commands))
+
+  tables_length : (before count : ℕ) → length (tables before count) ≡ count
+  tables_length before zero = refl
+  tables_length before (suc count) = ap (λ k. suc k) (tables_length (before + 1) count)
+
+  -- every command of the rewritten function
+  pub commands_kept : Each (Keeps flat false) (command_lines f 0 f.commands) → Each (Keeps program true) (command_lines f' 0 made)
+  commands_kept kept =
+      let numbers : 0 + tally (has_number reaching) f.commands ≡ numbers_in reaching f.commands = (let same = tally_is (has_number reaching) f.commands in omega (arith, same)) in
+      let own = own_kept f.commands 0 0 (front reaching f) refl refl numbers front_clear kept in
+      let place : length (front reaching f) ≡ 1 + numbers_in reaching f.commands = (let long = tables_length 0 (numbers_in reaching f.commands) in omega (arith, long)) in
+      (restore_kept 0, tables_kept (numbers_in reaching f.commands) 0 1 (behind 0 f.commands) (omega arith) (subst (λ k. Lines k (behind 0 f.commands)) place own))

@@ -2,6 +2,7 @@ pub mod Arriving
 pub mod Filling
 pub mod Kept
 pub mod Lines
+pub mod Marked
 pub mod Runs
 pub mod SameReach
 pub mod SameRules

@@ -1,4 +1,5 @@
-use Rattle.porch_rewrite.proofs.Kept.{find_none}
+use Rattle.porch_rewrite.proofs.Kept.{commands_kept}
+use Rattle.porch_rewrite.proofs.Marked.{reach_leads}
 use Rattle.porch_rewrite.proofs.laws.rewriting_keeps_the_rules.Goals as goal
 
 pub returns : goal.returns
