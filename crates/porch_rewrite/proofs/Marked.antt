@@ -170,3 +170,154 @@ module _ (flat : Flat) (least : IsLeastClosed flat (reaches flat)) where
 
   pub reach_leads : (k : ℕ) → reaching k ≡ true → leads_on k ≡ true
   reach_leads k h = least.least leads_on leads_closed k h
+
+  -- a function that doesn't reach one is left alone
+
+  abbrev test : Form → Bool
+  test g = leads_to_checkpoint (reaches (rewritten flat)) g
+
+  test_alike : (g : Form) → test g ≡ leads_to_checkpoint reaching g
+  test_alike g = leads_alike (reaches (rewritten flat)) reaching (λ k. same_reach flat k) g
+
+  no_places : (cs : List Command) (p : ℕ) → list_any (has_number reaching) cs ≡ false → places_from p test (map form_of cs) ≡ []
+  no_places [] p h = refl
+  no_places (c ∷ cs) p h = by_first (has_number reaching c) refl (λ g. no_places cs (p + 1) g)
+    where
+      by_first : (b : Bool) → has_number reaching c ≡ b → (list_any (has_number reaching) cs ≡ false → places_from (p + 1) test (map form_of cs) ≡ []) → places_from p test (map form_of (c ∷ cs)) ≡ []
+      by_first true is more = absurd (let at : true ≡ false = subst (λ b. b || list_any (has_number reaching) cs ≡ false) is h in cc)
+      by_first false is more = rw (test_alike (form_of c), is) (more (subst (λ b. b || list_any (has_number reaching) cs ≡ false) is h))
+
+  leads_not : (k : ℕ) (b : Bool) → leads_on k ≡ b → reaching k ≡ false → leads_on k ≡ false
+  leads_not k true is not = absurd (let there = leads_reach k is in let both : true ≡ false = sym there ∙ not in cc)
+  leads_not k false is not = is
+
+  pub alone_marked : (k : ℕ) (f : Function) → slice_get flat.functions k ≡ Some f → reaching k ≡ false → is_plain f ≡ true → is_rewritten (rewritten flat) f ≡ true
+  alone_marked k f at not plain =
+      let own : commands_of (slice_get flat.functions k) ≡ f.commands = rw at refl in
+      let none : list_any (has_number reaching) f.commands ≡ false = subst (λ (cs : List Command). list_any (has_number reaching) cs ≡ false) own (leads_not k (leads_on k) refl not) in
+      rw (no_places f.commands 0 none) plain
+
+  -- one that does is marked
+
+  map_get : (cs : List Command) (i : ℕ) → slice_get (map form_of cs) i ≡ option_map form_of (slice_get cs i)
+  map_get [] i = refl
+  map_get (c ∷ cs) zero = refl
+  map_get (c ∷ cs) (suc i) = map_get cs i
+
+  map_length : (cs : List Command) → length (map form_of cs) ≡ length cs
+  map_length [] = refl
+  map_length (c ∷ cs) = ap (λ k. suc k) (map_length cs)
+
+  same_one : (n : ℕ) → n == n ≡ true
+  same_one n = grind (arith, nat_tests)
+
+  same_some : (n : ℕ) → same_number (Some n) (Some n) ≡ true
+  same_some n = same_one n
+
+  same_all : (ns : List ℕ) → same_numbers ns ns ≡ true
+  same_all [] = refl
+  same_all (n ∷ ns) = rw (same_one n, same_all ns) refl
+
+  table_in : (count before j : ℕ) (rest : List Command) → j < count → slice_get (tables before count ++ rest) j ≡ Some (command.Table (before + j + 1) (FIRST_LABEL + (before + j)))
+  table_in zero before j rest less = absurd (omega (arith, less))
+  table_in (suc count) before zero rest less = let none : before + 0 ≡ before = omega arith in rw none refl
+  table_in (suc count) before (suc j) rest less =
+      let same : before + suc j ≡ before + 1 + j = omega arith in rw same (table_in count (before + 1) j rest (omega (arith, less)))
+
+  module _ (f : Function) where
+    abbrev made : List Command
+    made = saving_commands reaching f
+
+    abbrev forms : List Form
+    forms = map form_of made
+
+    abbrev out : ℕ
+    out = way_out reaching f
+
+    abbrev count : ℕ
+    count = numbers_in reaching f.commands
+
+    abbrev behind : ℕ → List Command → List Command
+    behind before cs = all_with_marks reaching out before cs ++ back reaching f
+
+    form_at : (i : ℕ) (c : Command) → slice_get made i ≡ Some c → slice_get forms i ≡ Some (form_of c)
+    form_at i c at = map_get made i ∙ ap (λ o. option_map form_of o) at
+
+    table_form : (before : ℕ) → before < count → slice_get forms (before + 1) ≡ Some (form.table (before + 1) (FIRST_LABEL + before))
+    table_form before less =
+        let next : before + 1 ≡ suc before = omega arith in
+        let none : 0 + before ≡ before = omega arith in
+        let at : slice_get made (suc before) ≡ Some (command.Table (0 + before + 1) (FIRST_LABEL + (0 + before))) = table_in count 0 before (behind 0 f.commands) less in
+        subst (λ k. slice_get forms k ≡ Some (form.table (before + 1) (FIRST_LABEL + before))) (sym next)
+        (form_at (suc before) (command.Table (before + 1) (FIRST_LABEL + before)) (subst (λ k. slice_get made (suc before) ≡ Some (command.Table (k + 1) (FIRST_LABEL + k))) none at))
+
+    length_two : (xs ys : List Command) → length (xs ++ ys) ≡ length xs + length ys
+    length_two xs ys = grind (arith, common_steps)
+
+    abbrev ahead : List Command
+    ahead = front reaching f ++ all_with_marks reaching out 0 f.commands
+
+    made_is : made ≡ ahead ++ back reaching f
+    made_is = sym (append_more (front reaching f) (all_with_marks reaching out 0 f.commands) (back reaching f))
+
+    forms_length : length forms ≡ length ahead + 2
+    forms_length = map_length made ∙ ap (λ (l : List Command). length l) made_is ∙ length_two ahead (back reaching f)
+
+    at_back : drop (length ahead) made ≡ back reaching f
+    at_back = ap (λ cs. drop (length ahead) cs) made_is ∙ drop_append ahead (back reaching f)
+
+    last_is : last_label forms ≡ Some out
+    last_is =
+        let place : length forms - 2 ≡ length ahead = (let long = forms_length in omega (arith, long)) in
+        ap (λ k. option_and_then label_of (slice_get forms k)) place
+        ∙ ap (λ o. option_and_then label_of o) (form_at (length ahead) (command.Label out) (drop_here made (length ahead) (command.Label out) (command.Push (every_variable reaching f) ∷ []) at_back))
+
+    push_is : slice_get forms (length forms - 1) ≡ Some (form.push (every_variable reaching f))
+    push_is =
+        let place : length forms - 1 ≡ length ahead + 1 = (let long = forms_length in omega (arith, long)) in
+        ap (λ k. slice_get forms k) place
+        ∙ form_at (length ahead + 1) (command.Push (every_variable reaching f))
+        (drop_here made (length ahead + 1) (command.Push (every_variable reaching f)) [] (drop_next made (length ahead) (command.Label out) (command.Push (every_variable reaching f) ∷ []) at_back))
+
+    one_marked : (before p : ℕ) (c : Command) (rest : List Command) → before < count → drop p made ≡ command.Label (FIRST_LABEL + before) ∷ c ∷ command.Saved (before + 1) out ∷ rest
+        → is_marked (length f.vars) forms (before + 1) (p + 1) ≡ true
+    one_marked before p c rest less at =
+        let label = form_at p (command.Label (FIRST_LABEL + before)) (drop_here made p (command.Label (FIRST_LABEL + before)) (c ∷ command.Saved (before + 1) out ∷ rest) at) in
+        let behind_label = drop_next made p (command.Label (FIRST_LABEL + before)) (c ∷ command.Saved (before + 1) out ∷ rest) at in
+        let behind_c = drop_next made (p + 1) c (command.Saved (before + 1) out ∷ rest) behind_label in
+        let saved = form_at (p + 1 + 1) (command.Saved (before + 1) out) (drop_here made (p + 1 + 1) (command.Saved (before + 1) out) rest behind_c) in
+        let place : p + 1 - 1 ≡ p = omega arith in
+        let first : nat_le 1 (p + 1) ≡ true = grind (arith, nat_tests) in
+        rw (first, table_form before less, place, label, saved, last_is, same_one (before + 1), same_one (FIRST_LABEL + before), same_one out) refl
+
+    record Marked (before p : ℕ) (cs : List Command) : Type 0 where
+      marked : are_marked (length f.vars) forms (before + 1) (places_from p test (map form_of (behind before cs))) ≡ true
+      number : length (places_from p test (map form_of (behind before cs))) ≡ tally (has_number reaching) cs
+
+    own_marked : (cs : List Command) (before p : ℕ) → drop p made ≡ behind before cs → before + tally (has_number reaching) cs ≡ count → Marked before p cs
+    own_marked [] before p at numbers = record { marked = refl; number = refl }
+    own_marked (c ∷ cs) before p at numbers = own_by (has_number reaching c) refl (λ before p at numbers. own_marked cs before p at numbers)
+      where
+        own_by : (b : Bool) → has_number reaching c ≡ b → ((before p : ℕ) → drop p made ≡ behind before cs → before + tally (has_number reaching) cs ≡ count → Marked before p cs) → Marked before p (c ∷ cs)
+        own_by true is more =
+            let label : Command = command.Label (FIRST_LABEL + before) in
+            let mark : Command = command.Saved (before + 1) out in
+            let shape : behind before (c ∷ cs) ≡ label ∷ c ∷ mark ∷ behind (before + 1) cs = rw is refl in
+            let here : drop p made ≡ label ∷ c ∷ mark ∷ behind (before + 1) cs = at ∙ shape in
+            let next = drop_next made (p + 1 + 1) mark (behind (before + 1) cs) (drop_next made (p + 1) c (mark ∷ behind (before + 1) cs) (drop_next made p label (c ∷ mark ∷ behind (before + 1) cs) here)) in
+            let counted : before + 1 + tally (has_number reaching) cs ≡ count = (let one : tally (has_number reaching) (c ∷ cs) ≡ 1 + tally (has_number reaching) cs = rw is refl in omega (arith, numbers, one)) in
+            let rest = more (before + 1) (p + 1 + 1 + 1) next counted in
+            let places : places_from p test (map form_of (behind before (c ∷ cs))) ≡ (p + 1) ∷ places_from (p + 1 + 1 + 1) test (map form_of (behind (before + 1) cs)) =
+                ap (λ l. places_from p test (map form_of l)) shape ∙ (rw (test_alike (form_of c), is) refl) in
+            record {
+              marked = rw (places, one_marked before p c (behind (before + 1) cs) (omega (arith, counted)) here) rest.marked;
+              number = rw (places, is) (ap (λ k. suc k) rest.number ∙ (omega arith));
+            }
+        own_by false is more =
+            let shape : behind before (c ∷ cs) ≡ c ∷ behind before cs = rw is refl in
+            let here : drop p made ≡ c ∷ behind before cs = at ∙ shape in
+            let counted : before + tally (has_number reaching) cs ≡ count = (let none : tally (has_number reaching) (c ∷ cs) ≡ tally (has_number reaching) cs = rw is refl in omega (arith, numbers, none)) in
+            let rest = more before (p + 1) (drop_next made p c (behind before cs) here) counted in
+            let places : places_from p test (map form_of (behind before (c ∷ cs))) ≡ places_from (p + 1) test (map form_of (behind before cs)) =
+                ap (λ l. places_from p test (map form_of l)) shape ∙ (rw (test_alike (form_of c), is) refl) in
+            record { marked = rw places rest.marked; number = rw (places, is) rest.number }
