@@ -169,3 +169,10 @@ module _ (p q : ℕ → Bool) (same : (n : ℕ) → p n ≡ q n) where
   pub functions_alike : (n : ℕ) (fs : List Function) → rewritten_functions p n fs ≡ rewritten_functions q n fs
   functions_alike n [] = refl
   functions_alike n (f ∷ fs) = rw (function_alike n f, functions_alike (n + 1) fs) refl
+
+pub few_numbers : (flat : Flat) → HasFew flat → (reaching : ℕ → Bool) (k : ℕ) (f : Function) → slice_get flat.functions k ≡ Some f → numbers_in reaching f.commands < FIRST_LABEL
+few_numbers flat few reaching k f at =
+    let own : commands_of (slice_get flat.functions k) ≡ f.commands = rw at refl in
+    let less = subst (λ (cs : List Command). count_by (λ c. takes_label (form_of c)) cs < FIRST_LABEL) own (few.labels k) in
+    let fewer = count_less (has_number reaching) (λ c. takes_label (form_of c)) f.commands (λ c is. takes_one reaching (form_of c) is) in
+    omega (arith, less, fewer)

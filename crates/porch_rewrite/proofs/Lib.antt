@@ -4,7 +4,9 @@ pub mod Kept
 pub mod Lines
 pub mod Marked
 pub mod Runs
+pub mod SameMain
 pub mod SameReach
 pub mod SameRules
 pub mod Sizes
 pub mod Steps
+pub mod Valid

@@ -321,3 +321,103 @@ module _ (flat : Flat) (least : IsLeastClosed flat (reaches flat)) where
             let places : places_from p test (map form_of (behind before (c ∷ cs))) ≡ places_from (p + 1) test (map form_of (behind before cs)) =
                 ap (λ l. places_from p test (map form_of l)) shape ∙ (rw (test_alike (form_of c), is) refl) in
             record { marked = rw places rest.marked; number = rw (places, is) rest.number }
+
+    tables_places : (n before p : ℕ) (rest : List Command) → places_from p test (map form_of (tables before n ++ rest)) ≡ places_from (p + n) test (map form_of rest)
+    tables_places zero before p rest = let none : p + 0 ≡ p = omega arith in rw none refl
+    tables_places (suc n) before p rest = let same : p + suc n ≡ p + 1 + n = omega arith in rw same (tables_places n (before + 1) (p + 1) rest)
+
+    tables_length : (before n : ℕ) → length (tables before n) ≡ n
+    tables_length before zero = refl
+    tables_length before (suc n) = ap (λ k. suc k) (tables_length (before + 1) n)
+
+    -- commands for saving and rebuilding
+
+    abbrev modes : List Command → ℕ
+    modes cs = tally (λ c. is_mode (form_of c)) cs
+
+    tally_map : (cs : List Command) → tally is_mode (map form_of cs) ≡ modes cs
+    tally_map [] = refl
+    tally_map (c ∷ cs) = by_mode (is_mode (form_of c)) (tally_map cs)
+      where
+        by_mode : (b : Bool) → tally is_mode (map form_of cs) ≡ modes cs → (if b then 1 + tally is_mode (map form_of cs) else tally is_mode (map form_of cs)) ≡ (if b then 1 + modes cs else modes cs)
+        by_mode true h = rw h refl
+        by_mode false h = h
+
+    modes_append : (xs ys : List Command) → modes (xs ++ ys) ≡ modes xs + modes ys
+    modes_append [] ys = omega arith
+    modes_append (x ∷ xs) ys = let rest = modes_append xs ys in by_mode (is_mode (form_of x)) (modes_append xs ys)
+      where
+        by_mode : (b : Bool) → modes (xs ++ ys) ≡ modes xs + modes ys → (if b then 1 + modes (xs ++ ys) else modes (xs ++ ys)) ≡ (if b then 1 + modes xs else modes xs) + modes ys
+        by_mode true h = omega (arith, h)
+        by_mode false h = h
+
+    modes_tables : (before n : ℕ) → modes (tables before n) ≡ n
+    modes_tables before zero = refl
+    modes_tables before (suc n) = let rest = modes_tables (before + 1) n in omega (arith, rest)
+
+    modes_marks : (cs : List Command) (before : ℕ) → modes (all_with_marks reaching out before cs) ≡ modes cs + tally (has_number reaching) cs
+    modes_marks [] before = omega arith
+    modes_marks (c ∷ cs) before = by_number (has_number reaching c) refl (is_mode (form_of c)) refl (λ before. modes_marks cs before)
+      where
+        by_number : (b : Bool) → has_number reaching c ≡ b → (m : Bool) → is_mode (form_of c) ≡ m → ((before : ℕ) → modes (all_with_marks reaching out before cs) ≡ modes cs + tally (has_number reaching) cs)
+            → modes (all_with_marks reaching out before (c ∷ cs)) ≡ modes (c ∷ cs) + tally (has_number reaching) (c ∷ cs)
+        by_number true is true mode more = let rest = more (before + 1) in rw (is, mode) (omega (arith, rest))
+        by_number true is false mode more = let rest = more (before + 1) in rw (is, mode) (omega (arith, rest))
+        by_number false is true mode more = let rest = more before in rw (is, mode) (omega (arith, rest))
+        by_number false is false mode more = let rest = more before in rw (is, mode) (omega (arith, rest))
+
+    plain_modes : is_plain f ≡ true → modes f.commands ≡ 0
+    plain_modes plain =
+        let none : count_by is_mode (map form_of f.commands) ≡ 0 = zero_of (count_by is_mode (map form_of f.commands)) plain in
+        sym (tally_map f.commands) ∙ tally_is is_mode (map form_of f.commands) ∙ none
+      where
+        zero_of : (n : ℕ) → n == 0 ≡ true → n ≡ 0
+        zero_of n h = grind (arith, nat_tests, h)
+
+    all_modes : is_plain f ≡ true → count_by is_mode forms ≡ 2 * count + 2
+    all_modes plain =
+        let own = plain_modes plain in
+        let numbers = tally_is (has_number reaching) f.commands in
+        let marks = modes_marks f.commands 0 in
+        let split = modes_append (tables 0 count) (all_with_marks reaching out 0 f.commands ++ back reaching f) in
+        let split2 = modes_append (all_with_marks reaching out 0 f.commands) (back reaching f) in
+        let rows = modes_tables 0 count in
+        let whole : modes made ≡ 2 * count + 2 = omega (arith, own, numbers, marks, split, split2, rows) in
+        sym (tally_is is_mode forms) ∙ tally_map made ∙ whole
+
+    ends_by : (n : ℕ) → count ≡ suc n → is_plain f ≡ true → has_ends (length f.vars) forms (suc n) ≡ true
+    ends_by n is plain =
+        let modes_are : count_by is_mode forms ≡ 2 * suc n + 2 = all_modes plain ∙ ap (λ k. 2 * k + 2) is in
+        rw (push_is, same_all (every_variable reaching f), modes_are, same_one (2 * suc n + 2)) refl
+
+    some_numbers : (k : ℕ) → slice_get flat.functions k ≡ Some f → reaching k ≡ true → (n : ℕ) × (count ≡ suc n)
+    some_numbers k at reached =
+        let own : commands_of (slice_get flat.functions k) ≡ f.commands = rw at refl in
+        let leads : list_any (has_number reaching) f.commands ≡ true = subst (λ (cs : List Command). list_any (has_number reaching) cs ≡ true) own (reach_leads k reached) in
+        let some = some_tally f.commands leads in
+        (some.0, sym (tally_is (has_number reaching) f.commands) ∙ some.1)
+      where
+        some_tally : (cs : List Command) → list_any (has_number reaching) cs ≡ true → (n : ℕ) × (tally (has_number reaching) cs ≡ suc n)
+        some_tally [] h = absurd (cc)
+        some_tally (c ∷ cs) h = by_first (has_number reaching c) refl (λ g. some_tally cs g)
+          where
+            by_first : (b : Bool) → has_number reaching c ≡ b → (list_any (has_number reaching) cs ≡ true → (n : ℕ) × (tally (has_number reaching) cs ≡ suc n)) → (n : ℕ) × (tally (has_number reaching) (c ∷ cs) ≡ suc n)
+            by_first true is more = (tally (has_number reaching) cs, rw is (omega arith))
+            by_first false is more = let rest = more (subst (λ b. b || list_any (has_number reaching) cs ≡ true) is h) in let shorter : tally (has_number reaching) (c ∷ cs) ≡ tally (has_number reaching) cs = rw is refl in (rest.0, shorter ∙ rest.1)
+
+    pub saving_marked : (k : ℕ) → slice_get flat.functions k ≡ Some f → reaching k ≡ true → is_plain f ≡ true → is_rewritten (rewritten flat) (with_commands f made) ≡ true
+    saving_marked k at reached plain =
+        let some = some_numbers k at reached in
+        let numbers : 0 + tally (has_number reaching) f.commands ≡ count = (let same = tally_is (has_number reaching) f.commands in omega (arith, same)) in
+        let long = tables_length 0 count in
+        let place : drop (1 + count) made ≡ behind 0 f.commands =
+            (let front_long : length (front reaching f) ≡ 1 + count = omega (arith, long) in subst (λ k. drop k made ≡ behind 0 f.commands) front_long (drop_append (front reaching f) (behind 0 f.commands))) in
+        let own = own_marked f.commands 0 (1 + count) place numbers in
+        let places : places_from 0 test forms ≡ places_from (1 + count) test (map form_of (behind 0 f.commands)) =
+            (let one : 0 + 1 ≡ 1 = omega arith in tables_places count 0 (0 + 1) (behind 0 f.commands) ∙ ap (λ k. places_from (k + count) test (map form_of (behind 0 f.commands))) one) in
+        let number : length (places_from (1 + count) test (map form_of (behind 0 f.commands))) ≡ suc some.0 = own.number ∙ tally_is (has_number reaching) f.commands ∙ some.1 in
+        let first : are_marked (length f.vars) forms 1 (places_from (1 + count) test (map form_of (behind 0 f.commands))) ≡ true = own.marked in
+        ap (λ ps. is_marked_at (length f.vars) forms ps) places
+        ∙ ap (λ b. b && has_ends (length f.vars) forms (length (places_from (1 + count) test (map form_of (behind 0 f.commands))))) first
+        ∙ ap (λ n. has_ends (length f.vars) forms n) number
+        ∙ ends_by some.0 some.1 plain

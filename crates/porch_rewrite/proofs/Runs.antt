@@ -23,6 +23,7 @@ use Rattle.porch_abstract.specs.whole.Run.{allocation_of, allocated_where_made, 
 use Rattle.porch_rewrite.specs.Laws.{HasRoom}
 use Rattle.porch_rewrite.specs.Rewriting.{FIRST_LABEL, saving_commands, rewritten_function, rewritten_functions, rewritten}
 use Rattle.porch_rewrite.proofs.Arriving.{is_silent, AreSilent, drop_next, drop_here, drop_none, Fits, saving, behind, arrives, jumps_there, no_jump}
+use Rattle.porch_rewrite.proofs.SameMain.{main_same}
 use Rattle.porch_rewrite.proofs.Steps.{got, FrameFits, left_alone, rebuilt, CallersFit, no_callers, PhaseFits, fits_before, fits_running, fits_over, Follows, Both, both_do, ends_both, plain_operand, same_pointee, entry, same_vars}
 
 -- silent commands go on, count no turn and make no mark
@@ -484,30 +485,10 @@ module _ (flat : Flat) (under : Environment) (n : ℕ) where
 
     -- before turn 1
 
-    abbrev is_main : Function → Bool
-    is_main f = bytes_eq (codes "main") f.name
-
-    main_by : (n : ℕ) (f : Function) (b : Bool) → reaching n ≡ b → is_main (rewritten_function reaching n f) ≡ is_main f
-    main_by n f true is = rw is refl
-    main_by n f false is = rw is refl
-
-    main_place : (n : ℕ) (fs : List Function) → position_or_len is_main (rewritten_functions reaching n fs) ≡ position_or_len is_main fs
-    main_place n [] = refl
-    main_place n (f ∷ fs) = rw (main_by n f (reaching n) refl, main_place (n + 1) fs) refl
-
-    functions_length : (n : ℕ) (fs : List Function) → length (rewritten_functions reaching n fs) ≡ length fs
-    functions_length n [] = refl
-    functions_length n (f ∷ fs) = ap (λ k. suc k) (functions_length (n + 1) fs)
-
-    main_same : main_of made ≡ main_of flat
-    main_same =
-        ap (λ p. if nat_lt p (length made.functions) then Some p else None) (main_place 0 flat.functions)
-        ∙ ap (λ l. if nat_lt (position_or_len is_main flat.functions) l then Some (position_or_len is_main flat.functions) else None) (functions_length 0 flat.functions)
-
     started : (s0 : State) → Follows flat (called flat (unwrap_or (main_of flat) 0) [] None (with_phase s0 before)) (called made (unwrap_or (main_of made) 0) [] None (with_phase s0 before))
     started s0 =
         let main : ℕ = unwrap_or (main_of flat) 0 in
-        subst (λ o. Follows flat (called flat main [] None (with_phase s0 before)) (called made (unwrap_or o 0) [] None (with_phase s0 before))) (sym main_same)
+        subst (λ o. Follows flat (called flat main [] None (with_phase s0 before)) (called made (unwrap_or o 0) [] None (with_phase s0 before))) (sym (main_same flat))
         (entered_alike main)
       where
         entered_alike : (main : ℕ) → Follows flat (called flat main [] None (with_phase s0 before)) (called made main [] None (with_phase s0 before))

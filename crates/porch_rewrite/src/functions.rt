@@ -3,17 +3,30 @@
 ghost use Rattle.std.specs.Prelude.{◌≡◌, ◌<◌, ◌≤◌, ◌+◌, ◌++◌, ◌^◌, ℕ, IfOk, OnOk, reverse, length, slice_index_or, false};
 ghost use Rattle.std.specs.List.{All, range_with_len};
 ghost use Rattle.porch_flat.specs.whole.Rewritten.{reaches};
-ghost use Rattle.porch_rewrite.specs.Laws.{HasFew};
+ghost use Rattle.porch_rewrite.specs.Laws.{HasFew, HasRoom};
 ghost use Rattle.porch_rewrite.specs.Rewriting as rewriting;
 ghost use Rattle.porch_rewrite.specs.Rewriting.{FIRST_LABEL};
 ghost use Rattle.porch_rewrite.specs.inside.Marked.{marked, saving_of, IsFew};
 
-use porch_flat::whole::{Command, Flat, Function, reaching};
+use crate::laws::rewriting_keeps_the_rules;
+use porch_flat::whole::{Command, Flat, Function, Plain, Valid, reaching};
 use sqlite_items::Items;
 use std::alloc::{AllocError, Global};
 
 /// The labels that are added begin here.
 const FIRST_LABEL: u32 = 1 << 30;
+
+/// The program as one that saves and rebuilds its frames; it means what it meant. In each function LABEL, CALL and CHECKPOINT
+/// commands have to be fewer than 2^30, variables at most 2^31, and labels below 2^30. Its time is linear in the commands.
+pub fn rewrite(alloc: Global, plain: Plain) -> Result<Valid, AllocError>
+    requires room { HasRoom plain }
+    requires few { HasFew plain }
+    ensures { IfOk result (λ made. made ≡ rewriting.rewritten plain) }
+{
+    rewriting_keeps_the_rules();
+    let made = rewritten(alloc, plain.into_flat())?;
+    Ok(Valid::from_valid(made))
+}
 
 /// The program with the commands that save and rebuild frames, in each function that reaches a checkpoint.
 pub fn rewritten(alloc: Global, flat: Flat) -> Result<Flat, AllocError>
