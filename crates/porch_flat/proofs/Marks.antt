@@ -424,3 +424,15 @@ one_step cs n i r less = let same : n - i ≡ suc (n - (i + 1)) = omega (arith, 
 
 pub no_step : (cs : Callers) (n i : ℕ) (r : Reached) → n ≤ i → gone_through cs (n - i) i r ≡ r
 no_step cs n i r le = let same : n - i ≡ 0 = omega (arith, le) in rw same refl
+
+pub reaches_is_least : (flat : Flat) → IsLeastClosed flat (reaches flat)
+reaches_is_least flat =
+    let by_marks = marks_are_least flat in
+    let same = marks_are_reaches flat in
+    record {
+      closed = record {
+        checkpoints = λ f h. sym (same f) ∙ by_marks.closed.checkpoints f h;
+        callers = λ f g call there. sym (same f) ∙ by_marks.closed.callers f g call (same g ∙ there);
+      };
+      least = λ other closed f h. by_marks.least other closed f (same f ∙ h);
+    }

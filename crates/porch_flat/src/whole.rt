@@ -18,7 +18,7 @@ mod valid;
 mod walk;
 
 use crate::flat::{GlobalObject, Operand};
-pub use calls::reaching;
+pub use calls::{reaching, reaching_is_least};
 pub use laws::{the_first_broken_rule_is_one, the_search_finds_the_first};
 use porch_types::Types;
 use sqlite_items::Items;

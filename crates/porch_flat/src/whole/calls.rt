@@ -2,6 +2,7 @@
 
 ghost use Rattle.std.specs.Prelude.{◌≡◌, ℕ, IfOk, OnOk, length, replicate, get_or, slice_index_or, slice_get, [], false};
 ghost use Rattle.std.specs.List.{list_any};
+ghost use Rattle.porch_flat.specs.declared.whole.Flat.{Flat};
 ghost use Rattle.porch_flat.specs.whole.Calls.{IsLeastClosed};
 ghost use Rattle.porch_flat.specs.whole.Rewritten.{reaches};
 ghost use Rattle.porch_flat.specs.inside.CallGraph.{noted, all_noted, callers_in, Reached, marked, all_marked, holds, begun, started, gone_on, gone_through, reached, with_caller};
@@ -28,6 +29,11 @@ pub fn reaching(alloc: Global, flat: &Flat) -> Result<Vec<bool>, AllocError>
     let Search { marks, order: _ } = search;
     Ok(marks)
 }
+
+/// What reaches a checkpoint by calls is the least set of functions that hold CHECKPOINT or call one of the set.
+pub fn reaching_is_least()
+    ensures { (flat : Flat) → IsLeastClosed flat (reaches flat) }
+{}
 
 // What was reached so far.
 #[derive(Drop)]

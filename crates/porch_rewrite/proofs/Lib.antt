@@ -1,0 +1,12 @@
+pub mod Arriving
+pub mod Filling
+pub mod Kept
+pub mod Lines
+pub mod Marked
+pub mod Runs
+pub mod SameMain
+pub mod SameReach
+pub mod SameRules
+pub mod Sizes
+pub mod Steps
+pub mod Valid
