@@ -2,7 +2,7 @@
 //! plain files count, and that one disk at a time changes the folder. Each test has a folder of its own, and compares after
 //! it has taken that away, so that one that fails leaves nothing behind.
 
-use porch_edge::{DirDisk, Disk, FileName};
+use porch_edge::{DirDisk, Disk, Failed, FileName};
 use std::io::PipeReader;
 use std::os::fd::AsRawFd;
 use std::os::unix::fs::symlink;
@@ -84,6 +84,29 @@ fn a_folder_keeps_its_files(rt: HostRuntime) -> Result<(), Fail> {
     let want = [ok, ok, ok, ok, ok, ok, ok, ok, Some(4), Some(3)];
     assert_eq!(rt; found, want);
     assert_eq!(rt; buf.as_slice(), b"\0ab.....".as_slice());
+    Ok(())
+}
+
+// The place of the last byte of a file that is longer than memory.
+const FAR: u64 = 3 << 30;
+
+// What the length answers after a byte was written there, and how many bytes are read from the place before it.
+fn lengths_of<D: Disk>(disk: &mut D, buf: &mut [u8]) -> Result<(u64, usize), Failed> {
+    disk.write_at(FileName::Layouts, FAR, b"!")?;
+    disk.sync(FileName::Layouts)?;
+    let len = disk.len(FileName::Layouts)?;
+    Ok((len, disk.read(FileName::Layouts, FAR - 1, buf)?))
+}
+
+#[test]
+fn a_file_may_be_longer_than_memory(rt: HostRuntime) -> Result<(), Fail> {
+    let mut disk = DirDisk::new(rt.clone()?);
+    let mut buf = [b'.'; 4];
+    enter(&rt, "long")?;
+    let found = lengths_of(&mut disk, &mut buf);
+    leave(&rt, "long")?;
+    assert_eq!(rt; found, Ok((FAR + 1, 2)));
+    assert_eq!(rt; buf.as_slice(), b"\0!..".as_slice());
     Ok(())
 }
 
