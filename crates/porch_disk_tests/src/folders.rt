@@ -205,3 +205,22 @@ fn one_disk_changes_a_folder(rt: HostRuntime) -> Result<(), Fail> {
     assert_eq!(rt; third, [false; 5]);
     Ok(())
 }
+
+// Whether a sync fails in a folder that can't be synced, and then that of another file, in a folder that can.
+fn sync_faults(rt: &HostRuntime) -> io::Result<[bool; 2]> {
+    let mut disk = DirDisk::new(rt.clone()?);
+    let home = env::current_dir(rt)?;
+    env::set_current_dir(rt, "/proc/self")?;
+    let first = disk.sync(FileName::CkA).is_err();
+    env::set_current_dir(rt, home.as_path())?;
+    Ok([first, disk.sync(FileName::CkB).is_err()])
+}
+
+#[test]
+fn a_folder_that_cannot_be_synced_is_answered_so(rt: HostRuntime) -> Result<(), Fail> {
+    enter(&rt, "unsynced")?;
+    let found = sync_faults(&rt);
+    leave(&rt, "unsynced")?;
+    assert_eq!(rt; found?, [true; 2]);
+    Ok(())
+}
