@@ -1,8 +1,8 @@
 #!/usr/bin/env python3
 """Reads what strace saw of porch_disk_calls, and prints each place where its descriptors aren't used as they must be.
 
-usage: descriptors.py FILE, where FILE is made by `strace -y -o FILE PROGRAM` for a session that makes four commits in an
-empty folder, and then writes, syncs, cuts and syncs `output`. Each file is opened once, a write or a cut is synced through
+usage: descriptors.py FILE SYNCS, where FILE is made by `strace -y -o FILE PROGRAM` for a session that makes four commits, and
+then writes, syncs, cuts and syncs `output`; SYNCS is how many checkpoint files there were before, which it syncs first. Each file is opened once, a write or a cut is synced through
 its own descriptor, the folder is locked before the first of them, and a commit makes three writes and three syncs.
 """
 import re
@@ -50,9 +50,8 @@ for line in open(sys.argv[1]):
 faults += [f"{file} is never synced" for file in unsynced]
 faults += [f"{file} is opened {count} times" for file, count in opens.items() if count > 1]
 faults += [f"{file} is never opened" for file in ("ck.a", "ck.b", "output") if not opens[file]]
-# Each commit finds its file empty or open, so that it closes it first. All have one length, so that none has to be cut. The
-# syncs of the attach find no file.
-for what, count in (("write", 3 * COMMITS), ("cut", 0), ("sync", 3 * COMMITS)):
+# Each commit finds its file empty or open, so that it closes it first. All have one length, so that none has to be cut.
+for what, count in (("write", 3 * COMMITS), ("cut", 0), ("sync", 3 * COMMITS + int(sys.argv[2]))):
     found = made["ck.a", what] + made["ck.b", what]
     if found != count:
         faults.append(f"{COMMITS} commits make {found} calls of the kind {what}, and not {count}")

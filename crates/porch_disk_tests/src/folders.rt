@@ -224,3 +224,28 @@ fn a_folder_that_cannot_be_synced_is_answered_so(rt: HostRuntime) -> Result<(), 
     assert_eq!(rt; found?, [true; 2]);
     Ok(())
 }
+
+// Whether a write and a sync succeed, and the same once the file has lost its name, or its name leads to another one.
+fn answers_without_name(rt: &HostRuntime, replaced: bool) -> io::Result<[bool; 4]> {
+    let mut disk = DirDisk::new(rt.clone()?);
+    let written = disk.write_at(FileName::CkA, 0, b"one").is_ok();
+    let synced = disk.sync(FileName::CkA).is_ok();
+    fs::remove_file(rt, "ck.a")?;
+    if replaced {
+        fs::write(rt, "ck.a", "other")?;
+    }
+    let written_again = disk.write_at(FileName::CkA, 0, b"two").is_ok();
+    let synced_again = disk.sync(FileName::CkA).is_ok();
+    Ok([written, synced, written_again, synced_again])
+}
+
+#[test]
+fn a_file_without_its_name_is_not_synced(rt: HostRuntime) -> Result<(), Fail> {
+    for replaced in [false, true] {
+        enter(&rt, "renamed")?;
+        let found = answers_without_name(&rt, replaced);
+        leave(&rt, "renamed")?;
+        assert_eq!(rt; found?, [true, true, true, false]);
+    }
+    Ok(())
+}

@@ -4,7 +4,7 @@ ghost use Rattle.std.specs.Prelude.{◌≤◌, ◌+◌, ◌^◌, IfOk, length};
 use crate::FileName;
 use std::fs::{self, File, OpenFile, OpenOptions};
 use std::io;
-use std::os::unix::fs::FileExt;
+use std::os::unix::fs::{FileExt, MetadataExt};
 use std::rt::Runtime;
 
 /// The current folder under the lock of one session. A file that was found once stays open, so that what was written
@@ -92,12 +92,14 @@ impl<R: Runtime<File = File>> Folder<R> {
         }
     }
 
-    /// Waits until the device has the file, and its name: a name that is new is the folder's to keep.
+    /// Waits until the device has the file, and its name: a name that is new is the folder's to keep. Fails where the file
+    /// was removed or replaced since it was opened.
     pub fn sync(&mut self, file: FileName) -> io::Result<()> {
         self.lock()?;
         self.find(file)?;
         if let Some(there) = self.descriptor(file) {
             there.sync_all()?;
+            self.check_name(file, there)?;
         }
         self.sync_names()
     }
@@ -128,6 +130,16 @@ impl<R: Runtime<File = File>> Folder<R> {
             Ok(_) => Err(io::Error::from(io::ErrorKind::InvalidInput)),
             Err(e) if e.kind() == io::ErrorKind::NotFound => Ok(false),
             Err(e) => Err(e),
+        }
+    }
+
+    // Fails where the name no longer leads to the open file: one that was removed or replaced lasts for nobody.
+    fn check_name(&self, file: FileName, there: &File) -> io::Result<()> {
+        let (named, open) = (fs::metadata(&self.rt, file.name())?, there.metadata()?);
+        if named.ino() == open.ino() && named.dev() == open.dev() {
+            Ok(())
+        } else {
+            Err(io::Error::from(io::ErrorKind::NotFound))
         }
     }
 
