@@ -108,6 +108,33 @@ looks_join s t u first second = both_by s.files u.files _ (λ none. silent_on t.
     let b = tells_on t.files u.files _ a.0 a.1 second in
     (b.0, b.1, looks_joined s t u fs a.0 b.0 a.2 b.2))
 
+-- one call that changes nothing is a run that changes nothing
+stays_looks : (s t : DiskState) (fs gs : Files) → ((c : Files) → since s s.moment c → s.leaves c) → Stays s t fs gs → Looks s t fs gs
+stays_looks s t fs gs only stays = record {
+  same = stays.same;
+  now = stays.crash;
+  moments = record {
+    each = λ c left. ⊎_elim (λ past. only c (left.0, left.1, past)) (λ here. here.1) (stays.time.nothing_else left.0 c left.2);
+    time = stays.time;
+  };
+}
+
+module _ (s t : DiskState) (file : FileName) (only : OnlyNow s) where
+  pub len_looks : (r : Result ℕ Failed) → LenStep s t file r → OnlyLooks s t
+  len_looks r step = both_by s.files t.files _ (λ none. silent_on s.files t.files _ none step) (λ fs is.
+      let u = tells_on s.files t.files _ fs is step in
+      (u.0, u.1, stays_looks s t fs u.0 (told_at s.files fs (λ _. (c : Files) → since s s.moment c → s.leaves c) is only) u.2.0))
+
+  pub read_looks : (at : ℕ) (before after : List ℕ) (r : Result ℕ Failed) → ReadStep s t file at before after r → OnlyLooks s t
+  read_looks at before after r step = both_by s.files t.files _ (λ none. silent_on s.files t.files _ none step) (λ fs is.
+      let u = tells_on s.files t.files _ fs is step in
+      (u.0, u.1, stays_looks s t fs u.0 (told_at s.files fs (λ _. (c : Files) → since s s.moment c → s.leaves c) is only) u.2.0))
+
+  pub sync_looks : (r : Result (Unit {0}) Failed) → SyncStep s t file r → OnlyLooks s t
+  sync_looks r step = both_by s.files t.files _ (λ none. silent_on s.files t.files _ none step) (λ fs is.
+      let u = tells_on s.files t.files _ fs is step in
+      (u.0, u.1, stays_looks s t fs u.0 (told_at s.files fs (λ _. (c : Files) → since s s.moment c → s.leaves c) is only) u.2.0))
+
 -- a run on one file
 module _ (s0 : DiskState) (fs : Files) (file : FileName) where
   going_begins : (M Q : List ℕ → Type 0) → ((c : Files) → s0.leaves c → M (file_of file c)) → ((x : List ℕ) → M x → Q x) → ((c : Files) → since s0 s0.moment c → s0.leaves c) → Going s0 s0 fs fs file M Q
