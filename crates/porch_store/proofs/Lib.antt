@@ -1,3 +1,5 @@
+pub mod Loads
+pub mod Numbers
 pub mod Attach
 pub mod Ranks
 pub mod Commits

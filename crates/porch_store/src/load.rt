@@ -78,7 +78,8 @@ fn read_on<D: Disk>(
         (λ count. WhereTold (D.state disk.old)
         (λ fs. length bytes.old ≡ length (file_of file fs)
         → filled + count ≡ length bytes.old)) }
-    ensures looks { OnlyLooks (D.state disk.old) (D.state disk.new) }
+    ensures looks { (start : D) → OnlyLooks (D.state start) (D.state disk.old)
+        → OnlyLooks (D.state start) (D.state disk.new) }
     ensures cause { HasCause (D.faults disk.old) (D.faults disk.new) result }
 {
     disk.read(file, filled as u64, &mut bytes[filled..])
