@@ -40,3 +40,7 @@ FailsIfLost lost file result = IsTrue (is_lost lost file) → IsErr result
 -- which files of a folder are lost
 abbrev pub lost_files : {R A B C : Type 0} → DirDisk R A B C → LostFiles
 lost_files disk = disk.lost
+
+-- what is lost stays lost
+abbrev pub StayLost : LostFiles → LostFiles → Type 0
+StayLost old new = (file : FileName) → IsTrue (is_lost old file) → IsTrue (is_lost new file)

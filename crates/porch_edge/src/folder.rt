@@ -2,7 +2,7 @@
 ghost use Rattle.std.specs.Prelude.{◌≡◌, ◌≤◌, ◌<◌, ◌+◌, ◌^◌, IfOk, OnOk, length};
 ghost use Rattle.porch_edge.specs.Causes.{HasCause, faults_after};
 ghost use Rattle.porch_edge.specs.Disk.{untold};
-ghost use Rattle.porch_edge.specs.Folder.{FailsIfLost, lost_after, lost_files, no_lost};
+ghost use Rattle.porch_edge.specs.Folder.{FailsIfLost, StayLost, lost_after, lost_files, no_lost};
 
 mod files;
 mod lost;
@@ -114,6 +114,7 @@ impl<R: Runtime<File = File>> Disk for DirDisk<R> {
     fn sync(&mut self, file: FileName) -> Result<(), Failed>
         ensures lost { FailsIfLost (lost_files self.old) file result }
         ensures now_lost { lost_files self.new ≡ lost_after (lost_files self.old) file result }
+        ensures stay_lost { StayLost (lost_files self.old) (lost_files self.new) }
         ensures cause { HasCause self.old.faults self.new.faults result }
         ensures counted { self.new.faults ≡ faults_after self.old.faults result }
     {

@@ -1,6 +1,6 @@
 //! The files of which a sync has failed.
 ghost use Rattle.std.specs.Prelude.{◌≡◌};
-ghost use Rattle.porch_edge.specs.Folder.{is_lost, no_lost, with_lost};
+ghost use Rattle.porch_edge.specs.Folder.{is_lost, no_lost, with_lost, StayLost};
 
 use crate::FileName;
 
@@ -45,9 +45,11 @@ impl LostFiles {
         }
     }
 
-    /// This file is lost from now on.
+    /// This file is lost from now on, as are those that were.
+    #[tactic(auto, using(crate::proofs::StaysLost::stay_lost))]
     pub fn add(&mut self, file: FileName)
-        ensures { self.new ≡ with_lost self.old file }
+        ensures now { self.new ≡ with_lost self.old file }
+        ensures stay { StayLost self.old self.new }
     {
         match file {
             FileName::Program => self.program = true,
