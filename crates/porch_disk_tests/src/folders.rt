@@ -57,7 +57,7 @@ fn each_file_has_its_name(rt: HostRuntime) -> Result<(), Fail> {
 }
 
 // What calls on a file answer: the length and the counts of bytes read, where they answer `Ok`, and else only that.
-fn answers_of<D: Disk>(disk: &mut D, buf: &mut [u8]) -> [Option<u64>; 10] {
+fn answers_of<D: Disk>(disk: &mut D, buf: &mut [u8]) -> [Option<u64>; 11] {
     let file = FileName::CkA;
     [
         disk.len(file).ok(),
@@ -66,6 +66,7 @@ fn answers_of<D: Disk>(disk: &mut D, buf: &mut [u8]) -> [Option<u64>; 10] {
         disk.sync(file).ok().map(|()| 0),
         disk.write_at(file, 2, b"abc").ok().map(|()| 0),
         disk.cut(file, 9).ok().map(|()| 0),
+        disk.len(file).ok(),
         disk.cut(file, 4).ok().map(|()| 0),
         disk.sync(file).ok().map(|()| 0),
         disk.len(file).ok(),
@@ -81,7 +82,7 @@ fn a_folder_keeps_its_files(rt: HostRuntime) -> Result<(), Fail> {
     let found = answers_of(&mut disk, &mut buf);
     leave(&rt, "kept")?;
     let ok = Some(0);
-    let want = [ok, ok, ok, ok, ok, ok, ok, ok, Some(4), Some(3)];
+    let want = [ok, ok, ok, ok, ok, ok, Some(5), ok, ok, Some(4), Some(3)];
     assert_eq!(rt; found, want);
     assert_eq!(rt; buf.as_slice(), b"\0ab.....".as_slice());
     Ok(())
