@@ -2,7 +2,7 @@
 ghost use Rattle.std.specs.Prelude.{◌≤◌, ◌+◌, ◌^◌, IfOk, length};
 
 use crate::FileName;
-use std::fs::{self, File, OpenFile, OpenOptions};
+use std::fs::{self, File, Metadata, OpenOptions};
 use std::io;
 use std::os::unix::fs::{FileExt, MetadataExt};
 use std::rt::Runtime;
@@ -15,12 +15,20 @@ pub struct Folder<R: Runtime<File = File>> {
     // The folder itself, under the lock. None before the first sync, write or cut.
     locked: Option<File>,
     names: Names,
-    program: Option<File>,
-    output: Option<File>,
-    ck_a: Option<File>,
-    ck_b: Option<File>,
-    layouts: Option<File>,
-    input: Option<File>,
+    program: Option<Kept>,
+    output: Option<Kept>,
+    ck_a: Option<Kept>,
+    ck_b: Option<Kept>,
+    layouts: Option<Kept>,
+    input: Option<Kept>,
+}
+
+// A file that is open, and what the system tells it from others by.
+#[derive(Drop)]
+struct Kept {
+    there: File,
+    device: u64,
+    inode: u64,
 }
 
 // Whether the names of the files are on the device.
@@ -51,8 +59,8 @@ impl<R: Runtime<File = File>> Folder<R> {
     /// The length of a file in bytes.
     pub fn length(&mut self, file: FileName) -> io::Result<u64> {
         self.find(file)?;
-        match self.descriptor(file) {
-            Some(there) => Ok(there.metadata()?.len()),
+        match self.kept(file) {
+            Some(kept) => Ok(kept.there.metadata()?.len()),
             None => Ok(0),
         }
     }
@@ -63,8 +71,8 @@ impl<R: Runtime<File = File>> Folder<R> {
         ensures { IfOk result (λ n. n ≤ length buf.new) }
     {
         self.find(file)?;
-        match self.descriptor(file) {
-            Some(there) => fill(there, at, buf),
+        match self.kept(file) {
+            Some(kept) => fill(&kept.there, at, buf),
             None => Ok(0),
         }
     }
@@ -73,11 +81,11 @@ impl<R: Runtime<File = File>> Folder<R> {
     pub fn write(&mut self, file: FileName, at: u64, bytes: &[u8]) -> io::Result<()> {
         self.lock()?;
         self.find(file)?;
-        if self.descriptor(file).is_none() {
+        if self.kept(file).is_none() {
             self.create(file)?;
         }
-        match self.descriptor(file) {
-            Some(there) => there.write_all_at(bytes, at),
+        match self.kept(file) {
+            Some(kept) => kept.there.write_all_at(bytes, at),
             None => Err(io::Error::from(io::ErrorKind::NotFound)),
         }
     }
@@ -86,8 +94,8 @@ impl<R: Runtime<File = File>> Folder<R> {
     pub fn cut(&mut self, file: FileName, len: u64) -> io::Result<()> {
         self.lock()?;
         self.find(file)?;
-        match self.descriptor(file) {
-            Some(there) if there.metadata()?.len() > len => there.set_len(len),
+        match self.kept(file) {
+            Some(kept) if kept.there.metadata()?.len() > len => kept.there.set_len(len),
             _ => Ok(()),
         }
     }
@@ -97,9 +105,9 @@ impl<R: Runtime<File = File>> Folder<R> {
     pub fn sync(&mut self, file: FileName) -> io::Result<()> {
         self.lock()?;
         self.find(file)?;
-        if let Some(there) = self.descriptor(file) {
-            there.sync_all()?;
-            self.check_name(file, there)?;
+        if let Some(kept) = self.kept(file) {
+            kept.there.sync_all()?;
+            self.check_name(file, kept)?;
         }
         self.sync_names()
     }
@@ -116,27 +124,30 @@ impl<R: Runtime<File = File>> Folder<R> {
 
     // Opens a file that is there and not open yet.
     fn find(&mut self, file: FileName) -> io::Result<()> {
-        if self.descriptor(file).is_none() && self.is_there(file)? {
+        if self.kept(file).is_none()
+            && let Some(found) = self.found(file)?
+        {
             let there = self.opened(file)?;
-            self.keep(file, there);
+            self.keep(file, there, &found);
         }
         Ok(())
     }
 
-    // Whether a plain file stands there. All else fails: to open a pipe could take for ever, and a folder has a length.
-    fn is_there(&self, file: FileName) -> io::Result<bool> {
+    // The plain file that stands there, if any. All else fails: to open a pipe could take for ever, and a folder has a
+    // length.
+    fn found(&self, file: FileName) -> io::Result<Option<Metadata>> {
         match fs::metadata(&self.rt, file.name()) {
-            Ok(found) if found.is_file() => Ok(true),
+            Ok(found) if found.is_file() => Ok(Some(found)),
             Ok(_) => Err(io::Error::from(io::ErrorKind::InvalidInput)),
-            Err(e) if e.kind() == io::ErrorKind::NotFound => Ok(false),
+            Err(e) if e.kind() == io::ErrorKind::NotFound => Ok(None),
             Err(e) => Err(e),
         }
     }
 
     // Fails where the name no longer leads to the open file: one that was removed or replaced lasts for nobody.
-    fn check_name(&self, file: FileName, there: &File) -> io::Result<()> {
-        let (named, open) = (fs::metadata(&self.rt, file.name())?, there.metadata()?);
-        if named.ino() == open.ino() && named.dev() == open.dev() {
+    fn check_name(&self, file: FileName, kept: &Kept) -> io::Result<()> {
+        let named = fs::metadata(&self.rt, file.name())?;
+        if named.ino() == kept.inode && named.dev() == kept.device {
             Ok(())
         } else {
             Err(io::Error::from(io::ErrorKind::NotFound))
@@ -164,7 +175,8 @@ impl<R: Runtime<File = File>> Folder<R> {
             .write(true)
             .create_new(true)
             .open(&self.rt, file.name())?;
-        self.keep(file, there);
+        let made = there.metadata()?;
+        self.keep(file, there, &made);
         Ok(())
     }
 
@@ -182,7 +194,7 @@ impl<R: Runtime<File = File>> Folder<R> {
         }
     }
 
-    fn descriptor(&self, file: FileName) -> Option<&File> {
+    fn kept(&self, file: FileName) -> Option<&Kept> {
         match file {
             FileName::Program => self.program.as_ref(),
             FileName::Output => self.output.as_ref(),
@@ -193,7 +205,7 @@ impl<R: Runtime<File = File>> Folder<R> {
         }
     }
 
-    fn keep(&mut self, file: FileName, there: File) {
+    fn keep(&mut self, file: FileName, there: File, found: &Metadata) {
         let place = match file {
             FileName::Program => &mut self.program,
             FileName::Output => &mut self.output,
@@ -202,7 +214,11 @@ impl<R: Runtime<File = File>> Folder<R> {
             FileName::Layouts => &mut self.layouts,
             FileName::Input => &mut self.input,
         };
-        *place = Some(there);
+        *place = Some(Kept {
+            there,
+            device: found.dev(),
+            inode: found.ino(),
+        });
     }
 }
 
