@@ -3,5 +3,7 @@
 pub mod Checkpoints
 -- what a store knows of a disk, and what a commit may leave there
 pub mod Stores
+-- facts on a store over calls on other files
+pub mod Others
 -- what only private contracts cite
 pub mod inside

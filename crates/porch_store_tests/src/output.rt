@@ -53,6 +53,8 @@ impl Disk for Counting {
 
     ghost only_now = { λ _. tt };
 
+    ghost up_to_now = { λ _. tt };
+
     ghost is_within = { λ _. tt };
 }
 

@@ -248,6 +248,8 @@ impl Disk for Short {
 
     ghost only_now = { λ _. tt };
 
+    ghost up_to_now = { λ _. tt };
+
     ghost is_within = { λ _. tt };
 }
 
