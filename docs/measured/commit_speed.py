@@ -16,8 +16,11 @@ pieces = sys.argv[4:]
 for size in (1 << 20, 1 << 24, 1 << 28) if pieces else (1 << 16, 1 << 20, 1 << 24):
     figures = {ours: [], theirs: []}
     with tempfile.TemporaryDirectory(dir=".") as one, tempfile.TemporaryDirectory(dir=".") as other:
+        pairs = [(ours, one), (theirs, other)]
         for _ in range(rounds):
-            for program, folder in ((ours, one), (theirs, other)):
+            # Each is the first one in every second round.
+            pairs.reverse()
+            for program, folder in pairs:
                 line = subprocess.run([program, str(size), "5", *pieces], cwd=folder, capture_output=True, text=True, check=True).stdout
                 figures[program].append([int(word) for word in line.split()[1:]])
     mean = {program: statistics.median(row[0] for row in rows) for program, rows in figures.items()}
