@@ -5,15 +5,13 @@ ghost use Rattle.porch_edge.specs.Disk.{untold};
 ghost use Rattle.porch_store.specs.Stores.{IsBelow};
 
 use byteorder::{BigEndian, ByteOrder};
-use porch_edge::{DirDisk, Disk, Failed, FileName, MemDisk, Pick, Stop};
+use porch_edge::{Disk, Failed, FileName, MemDisk, Pick, Stop};
 use porch_store::{Ack, LoadFault, Newest, Store, load_file};
 use std::alloc::{AllocError, Global};
-use std::fs;
-use std::os::unix::fs::symlink;
 use std::test::Fail;
 
 // A whole checkpoint of 200 bytes.
-fn image(number: u64) -> [u8; 200] {
+pub(crate) fn image(number: u64) -> [u8; 200] {
     let mut bytes = [b'.'; 200];
     bytes[0] = b'P';
     bytes[16..24].copy_from_slice(&number.to_be_bytes());
@@ -54,7 +52,7 @@ fn is_below(known: Option<u64>, number: u64) -> bool
 }
 
 // Attaches a store and commits to it, where the number is beyond those that are there.
-fn commit_to<D: Disk>(disk: &mut D, bytes: &[u8]) -> Result<Option<Ack>, Failed> {
+pub(crate) fn commit_to<D: Disk>(disk: &mut D, bytes: &[u8]) -> Result<Option<Ack>, Failed> {
     let mut store = Store::attach(disk)?;
     if bytes.len() < 127 || matches!(store.newest(), Newest::Tie) {
         return Ok(None);
@@ -271,33 +269,5 @@ fn a_file_is_loaded_whole(rt: HostRuntime) -> Result<(), Fail> {
         let loaded = load_file(alloc, &mut disk, FileName::CkA);
         assert_eq!(rt; matches!(loaded, Err(LoadFault::Failed)), true);
     }
-    Ok(())
-}
-
-#[test]
-fn commits_go_to_a_real_folder(rt: HostRuntime) -> Result<(), Fail> {
-    let alloc = rt.alloc();
-    let mut disk = DirDisk::new(rt.clone()?);
-    // Nothing can be read or written where a folder stands.
-    fs::create_dir(&rt, "ck.b")?;
-    assert_eq!(rt; commit_to(&mut disk, &image(1)[1..]), Err(Failed));
-    fs::remove_dir(&rt, "ck.b")?;
-    // Nor can a file be made in a folder that gives no leave: in this one even the machine's owner has none.
-    symlink(&rt, "/sys/kernel/ck.a", "ck.a")?;
-    assert_eq!(rt; commit_to(&mut disk, &image(1)[1..]), Err(Failed));
-    fs::remove_file(&rt, "ck.a")?;
-    for number in 1..=3 {
-        let file = if number == 2 {
-            FileName::CkB
-        } else {
-            FileName::CkA
-        };
-        let ack = Ack { file, number };
-        assert_eq!(rt; commit_to(&mut disk, &image(number)[1..]), Ok(Some(ack)));
-        let whole = load_file(alloc, &mut disk, file)?;
-        assert_eq!(rt; whole.as_slice(), image(number).as_slice());
-    }
-    fs::remove_file(&rt, "ck.a")?;
-    fs::remove_file(&rt, "ck.b")?;
     Ok(())
 }
