@@ -1,3 +1,4 @@
-pub mod Attach
+pub mod Lists
 pub mod Ranks
 pub mod Commits
+pub mod Starts

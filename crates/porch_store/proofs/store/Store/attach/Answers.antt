@@ -1,8 +1,8 @@
-use Rattle.porch_store.proofs.Attach.{attached}
+use Rattle.porch_store.proofs.Starts.{attached, ready_is}
 use Rattle.porch_store.proofs.store.Store.attach.Goals as goal
 
 pub returns-clause-ready : goal.returns-clause-ready
 returns-clause-ready g c =
-    attached (g.D.Disk.state c.args.disk.now) (g.D.Disk.state c.sync.new.self) (g.D.Disk.state c.sync-2.new.self) (g.D.Disk.state c.open_number.new.disk) (g.D.Disk.state c.open_number-2.new.disk)
-    c.ranked.result c.in_ok-first.first c.in_ok-second.second _ _ c.ranked.ensures.newest c.ranked.ensures.number c.in_ok-sync.ensures.step c.in_ok-sync-2.ensures.step
-    c.in_ok-first.ensures.answer c.in_ok-first.ensures.looks c.in_ok-second.ensures.answer c.in_ok-second.ensures.looks
+    ready_is c.resting.result (g.D.Disk.state c.open_number-2.new.disk) _ _ c.resting.ensures.newest c.resting.ensures.number
+    (attached (g.D.Disk.state c.settle.new.disk) (g.D.Disk.state c.open_number.new.disk) (g.D.Disk.state c.open_number-2.new.disk) c.rank-newest.result.0 c.rank-newest.result.1 c.in_ok-first.first c.in_ok-second.second
+    c.rank-newest.ensures.newest c.rank-newest.ensures.number c.in_ok-settle.ensures.settled_a c.in_ok-settle.ensures.settled_b c.in_ok-first.ensures.answer c.in_ok-first.ensures.looks c.in_ok-second.ensures.answer c.in_ok-second.ensures.looks)
