@@ -1,7 +1,9 @@
 -- The steps of a disk in memory, whose calls stand in their order.
-use Rattle.std.proofs.Common.{◌≡◌, ◌⊎◌, inl, inr, ℕ, zero, suc, ◌+◌, ◌-◌, ◌<◌, ◌≤◌, List, [], ◌∷◌, ◌++◌, length, take, drop, reverse, min, max, replicate, refl, sym, ◌∙◌, ap, subst, arith, OnOk, OnErr, Result, Ok, Err, length-append, length-drop, length-take, append_assoc}
+use Rattle.std.proofs.Common.{◌≡◌, ◌≢◌, ◌⊎◌, true, false, inl, inr, ℕ, zero, suc, ◌+◌, ◌-◌, ◌<◌, ◌≤◌, List, [], ◌∷◌, ◌++◌, length, take, drop, reverse, min, max, replicate, refl, sym, ◌∙◌, ap, subst, arith, OnOk, OnErr, Result, Ok, Err, length-append, length-drop, length-take, append_assoc}
 use Rattle.std.proofs.lemmas.List.{reverse-append, drop_at, take_all, take-append-le, length-replicate}
-use Rattle.std.proofs.lemmas.Bool.{cases_lt}
+use Rattle.std.proofs.lemmas.Bool.{cases_lt, false≢true}
+use Rattle.std.proofs.lemmas.Bool.Decides.{nat_tests}
+use Rattle.std.specs.Prelude.{leb, IsErr}
 use Rattle.std.proofs.lemmas.Result.{on_ok_weaker}
 use Rattle.porch_edge.specs.declared.disk.FileName.{FileName}
 use Rattle.porch_edge.specs.declared.failed.Failed.{Failed}
@@ -9,9 +11,9 @@ use Rattle.porch_edge.specs.declared.memory_calls.Change.{Change}
 use Rattle.porch_edge.specs.declared.memory_calls.Change.TheVariants.{Nothing, Synced}
 use Rattle.porch_edge.specs.declared.memory_calls.Call.{Call}
 use Rattle.porch_edge.specs.Files.{Files, file_of, with_file, written, padded_to, Torn, Shortened, Marred, Changed}
-use Rattle.porch_edge.specs.Disk.{DiskState, Stays, Alters}
-use Rattle.porch_edge.specs.Calls.{Leaves, memory_state}
-use Rattle.porch_edge.specs.inside.Kept.{Kept, Noted}
+use Rattle.porch_edge.specs.Disk.{DiskState, Turned, Passes, Rests, Ticks, Stays, Alters}
+use Rattle.porch_edge.specs.Calls.{Leaves, last_moment, end_of_time, next_moment, memory_state}
+use Rattle.porch_edge.specs.inside.Kept.{Kept, Noted, Logged}
 use Rattle.porch_edge.specs.OneFile.{with_own}
 use Rattle.porch_edge.proofs.Steps.{in_any, passes, stays_none, the_call, keeps_nothing, kept_nothing, durable_synced, keeps_synced, kept_synced}
 
@@ -26,6 +28,10 @@ pub in_any_err : {T E P : Type 0} (r : Result T E) → P → OnErr r P
 in_any_err (Ok x) p = tt
 in_any_err (Err e) p = p
 
+pub none_ok : {T E : Type 0} (r : Result T E) (P : Type 0) → IsErr r → OnOk r P
+none_ok (Ok x) P is = absurd (false≢true is)
+none_ok (Err e) P is = tt
+
 -- what holds whether a call was kept or not
 pub kept_or_not : {T E A B C D P : Type 0} (r : Result T E) → OnOk r A → OnErr r B → OnErr r C → OnErr r D → (A → P) → (B → C → D → P) → P
 kept_or_not (Ok x) a b c d f g = f a
@@ -39,43 +45,101 @@ take_less (suc m) (suc n) [] le = refl
 take_less (suc m) (suc n) (y ∷ x) le = ap (λ (l : List ℕ). y ∷ l) (take_less m n x (omega arith))
 
 -- where nothing was kept
-pub stays_unchanged : {T : Type 0} (fs gs : Files) (old new : List Call) (r : Result T Failed) → gs ≡ fs → new ≡ old → OnOk r ⊥ → Stays (memory_state fs (log_of old)) (memory_state gs (log_of new)) fs gs
-stays_unchanged fs gs old new (Ok x) same_files same_calls none = absurd none
-stays_unchanged fs gs old new (Err e) same_files same_calls none =
-    subst (λ g. Stays (memory_state fs (log_of old)) (memory_state g (log_of new)) fs g) (sym same_files)
-    (subst (λ l. Stays (memory_state fs (log_of old)) (memory_state fs (log_of l)) fs fs) (sym same_calls) (stays_none fs (log_of old)))
+pub stays_unchanged : (fs gs : Files) (old new : List Call) (was now : ℕ) → gs ≡ fs → new ≡ old → was ≤ now → last_moment (log_of old) ≤ was
+    → Stays (memory_state fs (log_of old) was) (memory_state gs (log_of new) now) fs gs
+stays_unchanged fs gs old new was now same_files same_calls on past =
+    subst (λ g. Stays (memory_state fs (log_of old) was) (memory_state g (log_of new) now) fs g) (sym same_files)
+    (subst (λ l. Stays (memory_state fs (log_of old) was) (memory_state fs (log_of l) now) fs fs) (sym same_calls) (stays_none fs (log_of old) was now on past))
 
 -- where a call was kept that changes no byte
-pub stays_noted : (fs : Files) (old new : List Call) (g : FileName) (change : Change) → (change ≡ Nothing) ⊎ (change ≡ Synced) → Kept fs (log_of old) → Noted old new g change → Stays (memory_state fs (log_of old)) (memory_state fs (log_of new)) fs fs
-stays_noted fs old new g change (inl is) kept noted =
-    let call : Call = the_call g Nothing noted.before in
-    let new_is : new ≡ old ++ call ∷ [] = noted.kept ∙ ap (λ (x : Change). old ++ the_call g x noted.before ∷ []) is in
-    subst (λ l. Stays (memory_state fs (log_of old)) (memory_state fs l) fs fs) (sym (ap (λ (l : List Call). log_of l) new_is ∙ log_more old call))
-    (record { same = refl; crash = keeps_nothing fs (log_of old) g noted.before; time = passes fs fs (log_of old) call (with_own g fs) })
-stays_noted fs old new g change (inr is) kept noted =
-    let call : Call = the_call g Synced noted.before in
-    let new_is : new ≡ old ++ call ∷ [] = noted.kept ∙ ap (λ (x : Change). old ++ the_call g x noted.before ∷ []) is in
-    subst (λ l. Stays (memory_state fs (log_of old)) (memory_state fs l) fs fs) (sym (ap (λ (l : List Call). log_of l) new_is ∙ log_more old call))
-    (record { same = refl; crash = keeps_synced fs (log_of old) g noted.before kept; time = passes fs fs (log_of old) call (with_own g fs) })
+pub stays_noted : (fs : Files) (old new : List Call) (g : FileName) (change : Change) (was now : ℕ) → (change ≡ Nothing) ⊎ (change ≡ Synced) → Kept fs (log_of old) → now ≡ was + 1 → Noted old new g change now
+    → Stays (memory_state fs (log_of old) was) (memory_state fs (log_of new) now) fs fs
+stays_noted fs old new g change was now (inl is) kept next noted =
+    let call : Call = the_call g Nothing noted.before now in
+    let new_is : new ≡ old ++ call ∷ [] = noted.kept ∙ ap (λ (x : Change). old ++ the_call g x noted.before now ∷ []) is in
+    let crash = keeps_nothing fs (log_of old) g noted.before now in
+    subst (λ l. Stays (memory_state fs (log_of old) was) (memory_state fs l now) fs fs) (sym (ap (λ (l : List Call). log_of l) new_is ∙ log_more old call))
+    (record { same = refl; crash = crash; time = passes fs fs (log_of old) call was (Leaves fs (log_of old)) (with_own g fs) next crash })
+stays_noted fs old new g change was now (inr is) kept next noted =
+    let call : Call = the_call g Synced noted.before now in
+    let new_is : new ≡ old ++ call ∷ [] = noted.kept ∙ ap (λ (x : Change). old ++ the_call g x noted.before now ∷ []) is in
+    let crash = keeps_synced fs (log_of old) g noted.before now kept in
+    subst (λ l. Stays (memory_state fs (log_of old) was) (memory_state fs l now) fs fs) (sym (ap (λ (l : List Call). log_of l) new_is ∙ log_more old call))
+    (record { same = refl; crash = crash; time = passes fs fs (log_of old) call was (Leaves fs (log_of old)) (with_own g fs) next crash })
 
-pub kept_noted : (fs : Files) (old new : List Call) (g : FileName) (change : Change) → (change ≡ Nothing) ⊎ (change ≡ Synced) → Kept fs (log_of old) → Noted old new g change → Kept fs (log_of new)
-kept_noted fs old new g change (inl is) kept noted =
-    let call : Call = the_call g Nothing noted.before in
-    let new_is : new ≡ old ++ call ∷ [] = noted.kept ∙ ap (λ (x : Change). old ++ the_call g x noted.before ∷ []) is in
-    subst (λ l. Kept fs l) (sym (ap (λ (l : List Call). log_of l) new_is ∙ log_more old call)) (kept_nothing fs (log_of old) g noted.before kept)
-kept_noted fs old new g change (inr is) kept noted =
-    let call : Call = the_call g Synced noted.before in
-    let new_is : new ≡ old ++ call ∷ [] = noted.kept ∙ ap (λ (x : Change). old ++ the_call g x noted.before ∷ []) is in
-    subst (λ l. Kept fs l) (sym (ap (λ (l : List Call). log_of l) new_is ∙ log_more old call)) (kept_synced fs (log_of old) g noted.before kept)
+pub kept_noted : (fs : Files) (old new : List Call) (g : FileName) (change : Change) (moment : ℕ) → (change ≡ Nothing) ⊎ (change ≡ Synced) → Kept fs (log_of old) → Noted old new g change moment → Kept fs (log_of new)
+kept_noted fs old new g change moment (inl is) kept noted =
+    let call : Call = the_call g Nothing noted.before moment in
+    let new_is : new ≡ old ++ call ∷ [] = noted.kept ∙ ap (λ (x : Change). old ++ the_call g x noted.before moment ∷ []) is in
+    subst (λ l. Kept fs l) (sym (ap (λ (l : List Call). log_of l) new_is ∙ log_more old call)) (kept_nothing fs (log_of old) g noted.before moment kept)
+kept_noted fs old new g change moment (inr is) kept noted =
+    let call : Call = the_call g Synced noted.before moment in
+    let new_is : new ≡ old ++ call ∷ [] = noted.kept ∙ ap (λ (x : Change). old ++ the_call g x noted.before moment ∷ []) is in
+    subst (λ l. Kept fs l) (sym (ap (λ (l : List Call). log_of l) new_is ∙ log_more old call)) (kept_synced fs (log_of old) g noted.before moment kept)
 
-pub durable_noted : (fs : Files) (old new : List Call) (g : FileName) → Noted old new g Synced → (c : Files) → Leaves fs (log_of new) c → file_of g c ≡ file_of g fs
-durable_noted fs old new g noted c left =
-    durable_synced fs (log_of old) g noted.before c (subst (λ l. Leaves fs l c) (ap (λ (l : List Call). log_of l) noted.kept ∙ log_more old (the_call g Synced noted.before)) left)
+-- the last call of those that are kept now
+pub past_noted : (old new : List Call) (g : FileName) (change : Change) (moment : ℕ) → Noted old new g change moment → last_moment (log_of new) ≡ moment
+past_noted old new g change moment noted = ap (λ (l : List Call). last_moment (log_of l)) noted.kept ∙ ap last_moment (log_more old (the_call g change noted.before moment))
+
+pub past_logged : (fs gs : Files) (old new : List Call) (g : FileName) (bytes : List ℕ) (change : Change) (moment : ℕ) → Logged fs gs old new g bytes change moment → last_moment (log_of new) ≡ moment
+past_logged fs gs old new g bytes change moment l = ap (λ (x : List Call). last_moment (log_of x)) l.kept ∙ ap last_moment (log_more old (the_call g change l.before moment))
+
+pub past_same : (old new : List Call) (was now : ℕ) → new ≡ old → was ≤ now → last_moment (log_of old) ≤ was → last_moment (log_of new) ≤ now
+past_same old new was now same on past = omega (arith, ap (λ (l : List Call). last_moment (log_of l)) same, on, past)
+
+pub durable_noted : (fs : Files) (old new : List Call) (g : FileName) (moment : ℕ) → Noted old new g Synced moment → (c : Files) → Leaves fs (log_of new) c → file_of g c ≡ file_of g fs
+durable_noted fs old new g moment noted c left =
+    durable_synced fs (log_of old) g noted.before moment c (subst (λ l. Leaves fs l c) (ap (λ (l : List Call). log_of l) noted.kept ∙ log_more old (the_call g Synced noted.before moment)) left)
+
+-- where nothing has changed, not even the moment
+rests : (fs gs : Files) (old new : List Call) (was now : ℕ) → gs ≡ fs → new ≡ old → now ≡ was → leb end_of_time was ≡ true → Rests (memory_state fs (log_of old) was) (memory_state gs (log_of new) now) fs gs
+rests fs gs old new was now same_files same_calls still at_end =
+    subst (λ g. Rests (memory_state fs (log_of old) was) (memory_state g (log_of new) now) fs g) (sym same_files)
+    (subst (λ l. Rests (memory_state fs (log_of old) was) (memory_state fs (log_of l) now) fs fs) (sym same_calls)
+    (subst (λ n. Rests (memory_state fs (log_of old) was) (memory_state fs (log_of old) n) fs fs) (sym still) (record {
+      same = refl;
+      still = λ clock. refl;
+      keeps = λ c left. left;
+      leaves = λ c left. left;
+      keeps_at = λ m c left. left;
+      leaves_at = λ m c left. left;
+      halted = at_end;
+    })))
+
+-- the clock goes on by one; in its last moment a call fails without effect
+pub ticks : {T : Type 0} (fs gs : Files) (old new : List Call) (was now : ℕ) (r : Result T Failed) → was ≤ end_of_time → now ≡ next_moment was → (now ≡ end_of_time → IsErr r × (gs ≡ fs) × (new ≡ old))
+    → Ticks (memory_state fs (log_of old) was) (memory_state gs (log_of new) now) fs gs r
+ticks fs gs old new was now r within next at_end = record {
+  going = λ test clock. let before : was < end_of_time = grind (arith, nat_tests, test) in omega (arith, next, before);
+  halted = λ test.
+      let there : was ≡ end_of_time = grind (arith, nat_tests, test, within) in
+      let still : now ≡ was = omega (arith, next, there) in
+      let facts = at_end (still ∙ there) in
+      (facts.0, rests fs gs old new was now facts.1 facts.2 still test);
+  goes_on = goes r at_end;
+}
+  where
+    going_on : now ≢ end_of_time → leb end_of_time now ≡ false
+    going_on other = let before : now < end_of_time = omega (arith, next, other) in grind (arith, nat_tests, before)
+
+    goes : {T : Type 0} (r : Result T Failed) → (now ≡ end_of_time → IsErr r × (gs ≡ fs) × (new ≡ old)) → OnOk r (leb end_of_time now ≡ false)
+    goes (Ok x) at_end = going_on (λ is. false≢true (at_end is).0)
+    goes (Err e) at_end = tt
 
 -- files that stay take a call that changes nothing
 module _ (fs : Files) (g : FileName) where
   changed_none : (R : List ℕ → List ℕ → Type 0) → ((x : List ℕ) → R x x) → (c : Files) → Changed g R c c
   changed_none R same c = record { others = sym (with_own g c); bytes = same (file_of g c) }
+
+  passes_turned : (old new : DiskState) (R : List ℕ → List ℕ → Type 0) → ((x : List ℕ) → R x x) → Passes old new old.leaves → Passes old new (Turned g R old.leaves)
+  passes_turned old new R same_R time = record {
+    later = time.later;
+    nothing_else = λ m c left. elim (time.nothing_else m c left) [
+      | inl past ↦ inl past
+      | inr here ↦ inr (here.0, (c, here.1, changed_none R same_R c))
+    ];
+    keeps = time.keeps;
+  }
 
   pub alters_stays : (old new : DiskState) (gs : Files) (full : List ℕ) (R S : List ℕ → List ℕ → Type 0) (r : Result (Unit {0}) Failed) → ((x : List ℕ) → R x x) → ((x : List ℕ) → S x x) → OnOk r (full ≡ file_of g fs) → Stays old new fs gs → Alters old new fs gs g full R S r
   alters_stays old new gs full R S r same_R same_S full_is stays = record {
@@ -83,7 +147,8 @@ module _ (fs : Files) (g : FileName) where
     failed = in_any_err r (subst (λ x. Changed g S fs x) (sym stays.same) (changed_none S same_S fs));
     crash = in_any r (λ c left. (c, stays.crash c left, changed_none R same_R c));
     crash_failed = in_any_err r (λ c left. (c, stays.crash c left, changed_none S same_S c));
-    time = stays.time;
+    time = in_any r (passes_turned old new R same_R stays.time);
+    time_failed = in_any_err r (passes_turned old new S same_S stays.time);
   }
 
 pub torn_none : (from to : ℕ) (x : List ℕ) → Torn from to x x

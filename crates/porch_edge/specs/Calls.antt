@@ -1,5 +1,5 @@
 -- What a crash may leave after the calls that a disk in memory keeps.
-use Rattle.std.specs.Prelude.{◌≡◌, ◌==◌, ℕ, ◌≤◌, ◌⊎◌, List, [], ◌∷◌, length, if◌then◌else◌}
+use Rattle.std.specs.Prelude.{◌≡◌, ◌==◌, ℕ, ◌+◌, ◌-◌, ◌^◌, ◌<◌, ◌≤◌, ◌⊎◌, List, [], ◌∷◌, leb, min, if◌then◌else◌}
 use Rattle.std.specs.declared.option.Option.TheVariants.{Some}
 use Rattle.porch_edge.specs.declared.disk.FileName.{FileName}
 use Rattle.porch_edge.specs.declared.disk.FileName.TheVariants.{Program, Output, CkA, CkB, Layouts, Input}
@@ -7,7 +7,7 @@ use Rattle.porch_edge.specs.declared.memory_calls.Change.{Change}
 use Rattle.porch_edge.specs.declared.memory_calls.Change.TheVariants.{Nothing, Synced, Write, Cut, Put}
 use Rattle.porch_edge.specs.declared.memory_calls.Call.{Call}
 use Rattle.porch_edge.specs.Files.{Files, file_of, with_file, Torn, Shortened}
-use Rattle.porch_edge.specs.Disk.{DiskState}
+use Rattle.porch_edge.specs.Disk.{DiskState, Moment}
 
 -- a number for each file
 abbrev pub index_of : FileName → ℕ
@@ -52,12 +52,36 @@ Leaves fs calls c = (file : FileName) → FileLeaves file (file_of file fs) call
 abbrev pub files_before : Call → Files → Files
 files_before call fs = with_file call.file fs (bytes_before call.change call.before.items (file_of call.file fs))
 
--- what a crash may have left since the moment when so many calls were made
-abbrev pub LeftSince : Files → List Call → ℕ → Files → Type 0
-LeftSince fs [] t c = Leaves fs [] c
-LeftSince fs (call ∷ earlier) t c =
-    Leaves fs (call ∷ earlier) c ⊎ ((t ≤ length earlier) × LeftSince (files_before call fs) earlier t c)
+-- What a crash at a moment may have left, by the calls of that moment and before. One that isn't kept has changed
+-- nothing.
+abbrev pub LeftAt : Files → List Call → ℕ → Files → Type 0
+LeftAt fs [] m c = Leaves fs [] c
+LeftAt fs (call ∷ earlier) m c =
+    ((call.moment ≤ m) × Leaves fs (call ∷ earlier) c) ⊎ ((m < call.moment) × LeftAt (files_before call fs) earlier m c)
 
--- a disk with these files after these calls, of which the last stands first
-abbrev pub memory_state : Files → List Call → DiskState
-memory_state fs calls = record { files = Some fs; leaves = Leaves fs calls; moment = λ _. length calls; since = λ t. LeftSince fs calls (t 0) }
+-- the moment of the last of these calls
+abbrev pub last_moment : List Call → ℕ
+last_moment [] = 0
+last_moment (call ∷ earlier) = call.moment
+
+-- the last moment, in which no call goes
+abbrev pub end_of_time : ℕ
+end_of_time = 2 ^ 64 - 1
+
+-- the moment of the next call
+abbrev pub next_moment : ℕ → ℕ
+next_moment now = min (now + 1) end_of_time
+
+-- all clocks show the same: it is that of one device
+abbrev pub IsOfOne : Moment → Type 0
+IsOfOne m = (clock : ℕ) → m clock ≡ m 0
+
+-- a disk with these files after these calls, of which the last stands first, at this moment
+abbrev pub memory_state : Files → List Call → ℕ → DiskState
+memory_state fs calls now = record {
+  files = Some fs;
+  leaves = Leaves fs calls;
+  moment = λ _. now;
+  at = λ m c. IsOfOne m × (m 0 ≤ now) × LeftAt fs calls (m 0) c;
+  halted = leb end_of_time now;
+}

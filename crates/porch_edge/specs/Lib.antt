@@ -27,5 +27,7 @@ pub mod OneFile
 pub mod Told
 -- facts on calls one after another, and on two runs of them
 pub mod Runs
+-- facts on calls that leave a file as it was
+pub mod Others
 -- what only private contracts cite
 pub mod inside

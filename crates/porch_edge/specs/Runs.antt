@@ -1,13 +1,13 @@
 -- Calls one after another on a disk: what one call more adds to a run of them, and what joins two runs. Each fact is
 -- proved here, for all predicates on a file's bytes; the laws in src/laws.rt say it of tests on them, as clauses can.
-use Rattle.std.specs.Prelude.{◌≡◌, ℕ, Bool, IsTrue, List, take, Result}
+use Rattle.std.specs.Prelude.{◌≡◌, ◌⊎◌, ℕ, Bool, IsTrue, List, take, Result}
 use Rattle.std.proofs.Common.{inl, inr, ⊎_elim, sym, ◌∙◌, ap, subst}
 use Rattle.std.proofs.Math.Nat.{le_refl, le_trans}
 use Rattle.std.specs.declared.result.Result.TheVariants.{Ok, Err}
 use Rattle.porch_edge.specs.declared.disk.FileName.{FileName}
 use Rattle.porch_edge.specs.declared.failed.Failed.{Failed}
 use Rattle.porch_edge.specs.Files.{Files, file_of, with_file, written, Shortened, Marred}
-use Rattle.porch_edge.specs.Disk.{DiskState, Moment, IsBy, WhereTold, BothTell, Follows, Passes, Stays, Alters, LenStep, ReadStep, WriteStep, CutStep, SyncStep, TornWrite, LeavesOnly, ButFor, IsSettled, Touches, TouchesOnly, Looks, OnlyLooks, HasNow}
+use Rattle.porch_edge.specs.Disk.{DiskState, Moment, IsBy, IsBehind, since, WhereTold, BothTell, Turned, Passes, Stays, Alters, LenStep, ReadStep, WriteStep, CutStep, SyncStep, TornWrite, LeavesOnly, ButFor, IsSettled, Touches, TouchesOnly, Looks, OnlyLooks, HasNow}
 use Rattle.porch_edge.specs.OneFile.{own_bytes, with_own, with_twice}
 use Rattle.porch_edge.specs.Told.{told_at, tells_on, silent_on, both_by, second_told}
 
@@ -23,7 +23,7 @@ Run old new file M Q = BothTell old.files new.files (λ fs gs. Going old new fs 
 
 -- since this moment there is no other
 abbrev pub OnlyNow : DiskState → Type 0
-OnlyNow s = WhereTold s (λ _. (c : Files) → s.since s.moment c → s.leaves c)
+OnlyNow s = WhereTold s (λ _. (c : Files) → since s s.moment c → s.leaves c)
 
 by_itself : (s : Moment) → IsBy s s
 by_itself s = λ clock. le_refl (s clock)
@@ -45,31 +45,53 @@ but_joins file before between Q R first c but =
       },
     )
 
+behind_both : (s t m : Moment) → IsBy s t → IsBehind m t → IsBehind m s
+behind_both s t m le behind = (by_both s t m le behind.0, λ by. behind.1 (by_both m s t by le))
+
+-- no call
+passes_begin : (s : DiskState) (P : Files → Type 0) → Passes s s P
+passes_begin s P = record { later = by_itself s.moment; nothing_else = λ m c left. inl left; keeps = λ m c left. left }
+
+-- what a crash leaves at the moments that are passed, said more weakly
+pub passes_weakens : (s t : DiskState) (P R : Files → Type 0) → ((c : Files) → P c → R c) → Passes s t P → Passes s t R
+passes_weakens s t P R imp time = record {
+  later = time.later;
+  nothing_else = λ m c left. ⊎_elim (λ past. inl past) (λ here. inr (here.0, imp c here.1)) (time.nothing_else m c left);
+  keeps = time.keeps;
+}
+
+-- and over two runs
+passes_joins : (s t u : DiskState) (P : Files → Type 0) → Passes s t P → Passes t u P → Passes s u P
+passes_joins s t u P first second = record {
+  later = by_both s.moment t.moment u.moment first.later second.later;
+  nothing_else = λ m c left. ⊎_elim (λ past. first.nothing_else m c past) (λ here. inr (behind_both s.moment t.moment m first.later here.0, here.1)) (second.nothing_else m c left);
+  keeps = λ m c left. second.keeps m c (first.keeps m c left);
+}
+
+-- what a crash since an earlier moment may have left is what it might have left before, or is left all along
+pub since_before : (s t : DiskState) (P : Files → Type 0) → LeavesOnly s t P → (u : Moment) (c : Files) → since t u c → since s u c ⊎ P c
+since_before s t P all u c left = ⊎_elim (λ past. inl (left.0, left.1, past)) (λ here. inr here.1) (all.time.nothing_else left.0 c left.2)
+
+-- and stays so
+pub since_keeps : (s t : DiskState) (P : Files → Type 0) → LeavesOnly s t P → (u : Moment) (c : Files) → since s u c → since t u c
+since_keeps s t P all u c left = (left.0, left.1, all.time.keeps left.0 c left.2)
+
 -- what a crash leaves all along, said more weakly
 pub leaves_weakens : (s t : DiskState) (P R : Files → Type 0) → ((c : Files) → P c → R c) → LeavesOnly s t P → LeavesOnly s t R
-leaves_weakens s t P R imp all = record {
-  later = all.later;
-  each = λ c left. imp c (all.each c left);
-  before = λ u c le left. ⊎_elim (λ past. inl past) (λ here. inr (imp c here)) (all.before u c le left);
-  keeps = all.keeps;
-}
+leaves_weakens s t P R imp all = record { each = λ c left. imp c (all.each c left); time = passes_weakens s t P R imp all.time }
 
 -- and over two runs
 pub leaves_joins : (s t u : DiskState) (P : Files → Type 0) → LeavesOnly s t P → LeavesOnly t u P → LeavesOnly s u P
 leaves_joins s t u P first second = record {
-  later = by_both s.moment t.moment u.moment first.later second.later;
-  each = λ c left. ⊎_elim (λ past. first.each c past) (λ here. here) (second.before s.moment c first.later left);
-  before = λ v c le left. ⊎_elim (λ past. first.before v c le past) (λ here. inr here) (second.before v c (by_both v s.moment t.moment le first.later) left);
-  keeps = λ v c le left. second.keeps v c (by_both v s.moment t.moment le first.later) (first.keeps v c le left);
+  each = λ c left. ⊎_elim (λ past. first.each c (left.0, left.1, past)) (λ here. here.1) (second.time.nothing_else left.0 c left.2);
+  time = passes_joins s t u P first.time second.time;
 }
 
 -- and one call more
-leaves_more : (s0 s t : DiskState) (P : Files → Type 0) → LeavesOnly s0 s P → Passes s t → ((c : Files) → t.leaves c → P c) → LeavesOnly s0 t P
-leaves_more s0 s t P so_far time here = record {
-  later = by_both s0.moment s.moment t.moment so_far.later time.later;
-  each = λ c left. ⊎_elim (so_far.each c) (here c) (time.nothing_else s0.moment c so_far.later left);
-  before = λ u c le left. ⊎_elim (λ past. so_far.before u c le past) (λ now. inr (here c now)) (time.nothing_else u c (by_both u s0.moment s.moment le so_far.later) left);
-  keeps = λ u c le left. time.keeps u c (by_both u s0.moment s.moment le so_far.later) (so_far.keeps u c le left);
+leaves_more : (s0 s t : DiskState) (P R : Files → Type 0) → LeavesOnly s0 s P → Passes s t R → ((c : Files) → R c → P c) → LeavesOnly s0 t P
+leaves_more s0 s t P R so_far time here = record {
+  each = λ c left. ⊎_elim (λ past. so_far.each c (left.0, left.1, past)) (λ now. here c now.1) (time.nothing_else left.0 c left.2);
+  time = passes_joins s0 s t P so_far.time (passes_weakens s t R P here time);
 }
 
 -- two runs that change nothing are one
@@ -86,17 +108,42 @@ looks_join s t u first second = both_by s.files u.files _ (λ none. silent_on t.
     let b = tells_on t.files u.files _ a.0 a.1 second in
     (b.0, b.1, looks_joined s t u fs a.0 b.0 a.2 b.2))
 
+-- one call that changes nothing is a run that changes nothing
+stays_looks : (s t : DiskState) (fs gs : Files) → ((c : Files) → since s s.moment c → s.leaves c) → Stays s t fs gs → Looks s t fs gs
+stays_looks s t fs gs only stays = record {
+  same = stays.same;
+  now = stays.crash;
+  moments = record {
+    each = λ c left. ⊎_elim (λ past. only c (left.0, left.1, past)) (λ here. here.1) (stays.time.nothing_else left.0 c left.2);
+    time = stays.time;
+  };
+}
+
+module _ (s t : DiskState) (file : FileName) (only : OnlyNow s) where
+  pub len_looks : (r : Result ℕ Failed) → LenStep s t file r → OnlyLooks s t
+  len_looks r step = both_by s.files t.files _ (λ none. silent_on s.files t.files _ none step) (λ fs is.
+      let u = tells_on s.files t.files _ fs is step in
+      (u.0, u.1, stays_looks s t fs u.0 (told_at s.files fs (λ _. (c : Files) → since s s.moment c → s.leaves c) is only) u.2.0))
+
+  pub read_looks : (at : ℕ) (before after : List ℕ) (r : Result ℕ Failed) → ReadStep s t file at before after r → OnlyLooks s t
+  read_looks at before after r step = both_by s.files t.files _ (λ none. silent_on s.files t.files _ none step) (λ fs is.
+      let u = tells_on s.files t.files _ fs is step in
+      (u.0, u.1, stays_looks s t fs u.0 (told_at s.files fs (λ _. (c : Files) → since s s.moment c → s.leaves c) is only) u.2.0))
+
+  pub sync_looks : (r : Result (Unit {0}) Failed) → SyncStep s t file r → OnlyLooks s t
+  sync_looks r step = both_by s.files t.files _ (λ none. silent_on s.files t.files _ none step) (λ fs is.
+      let u = tells_on s.files t.files _ fs is step in
+      (u.0, u.1, stays_looks s t fs u.0 (told_at s.files fs (λ _. (c : Files) → since s s.moment c → s.leaves c) is only) u.2.0))
+
 -- a run on one file
 module _ (s0 : DiskState) (fs : Files) (file : FileName) where
-  going_begins : (M Q : List ℕ → Type 0) → ((c : Files) → s0.leaves c → M (file_of file c)) → ((x : List ℕ) → M x → Q x) → ((c : Files) → s0.since s0.moment c → s0.leaves c) → Going s0 s0 fs fs file M Q
+  going_begins : (M Q : List ℕ → Type 0) → ((c : Files) → s0.leaves c → M (file_of file c)) → ((x : List ℕ) → M x → Q x) → ((c : Files) → since s0 s0.moment c → s0.leaves c) → Going s0 s0 fs fs file M Q
   going_begins M Q here imp only = record {
     others = sym (with_own file fs);
     now = λ c left. (c, left, record { others = sym (with_own file c); bytes = here c left });
     moments = record {
-      later = by_itself s0.moment;
       each = λ c left. let now = only c left in (c, now, record { others = sym (with_own file c); bytes = imp (file_of file c) (here c now) });
-      before = λ u c le left. inl left;
-      keeps = λ u c le left. left;
+      time = passes_begin s0 (ButFor file s0.leaves Q);
     };
   }
 
@@ -104,13 +151,12 @@ module _ (s0 : DiskState) (fs : Files) (file : FileName) where
   going_stays s t gs hs M Q imp going stays = record {
     others = subst (λ x. x ≡ with_file file fs (file_of file x)) (sym stays.same) going.others;
     now = λ c left. going.now c (stays.crash c left);
-    moments = leaves_more s0 s t (ButFor file s0.leaves Q) going.moments stays.time (λ c left. but_weakens file s0.leaves M Q imp c (going.now c (stays.crash c left)));
+    moments = leaves_more s0 s t (ButFor file s0.leaves Q) s.leaves going.moments stays.time (λ c left. but_weakens file s0.leaves M Q imp c (going.now c left));
   }
 
   joined : (s : DiskState) (M N : List ℕ → Type 0) (R : List ℕ → List ℕ → Type 0) → ((c : Files) → s.leaves c → ButFor file s0.leaves M c) → ((x y : List ℕ) → M x → R x y → N y)
-      → (new : Files → Type 0) → Follows file R s.leaves new → (c : Files) → new c → ButFor file s0.leaves N c
-  joined s M N R now step new follows c left =
-      let from = follows c left in
+      → (c : Files) → Turned file R s.leaves c → ButFor file s0.leaves N c
+  joined s M N R now step c from =
       let but = now from.0 from.1 in (
         but.0,
         but.1,
@@ -128,18 +174,18 @@ module _ (s0 : DiskState) (fs : Files) (file : FileName) where
   going_alters : (s t : DiskState) (gs hs : Files) (M N Q : List ℕ → Type 0) (full : List ℕ) (R S : List ℕ → List ℕ → Type 0) (r : Result (Unit {0}) Failed) → Going s0 s fs gs file M Q → Alters s t gs hs file full R S r
       → ((x y : List ℕ) → M x → R x y → N y) → ((x y : List ℕ) → M x → S x y → N y) → ((x : List ℕ) → N x → Q x) → Going s0 t fs hs file N Q
   going_alters s t gs hs M N Q full R S (Ok x) going alters step_R step_S imp =
-      let now = joined s M N R going.now step_R t.leaves alters.crash in
+      let turned = joined s M N R going.now step_R in
       record {
         others = others_stay gs hs full going.others alters.done;
-        now = now;
-        moments = leaves_more s0 s t (ButFor file s0.leaves Q) going.moments alters.time (λ c left. but_weakens file s0.leaves N Q imp c (now c left));
+        now = λ c left. turned c (alters.crash c left);
+        moments = leaves_more s0 s t (ButFor file s0.leaves Q) (Turned file R s.leaves) going.moments alters.time (λ c left. but_weakens file s0.leaves N Q imp c (turned c left));
       }
   going_alters s t gs hs M N Q full R S (Err e) going alters step_R step_S imp =
-      let now = joined s M N S going.now step_S t.leaves alters.crash_failed in
+      let turned = joined s M N S going.now step_S in
       record {
         others = others_stay gs hs (file_of file hs) going.others alters.failed.others;
-        now = now;
-        moments = leaves_more s0 s t (ButFor file s0.leaves Q) going.moments alters.time (λ c left. but_weakens file s0.leaves N Q imp c (now c left));
+        now = λ c left. turned c (alters.crash_failed c left);
+        moments = leaves_more s0 s t (ButFor file s0.leaves Q) (Turned file S s.leaves) going.moments alters.time_failed (λ c left. but_weakens file s0.leaves N Q imp c (turned c left));
       }
 
 -- no call is a run: a crash leaves bytes with M
@@ -149,7 +195,7 @@ run_begins s file M Q imp only here = both_by s.files s.files _ (λ none. none) 
       fs,
       is,
       going_begins s fs file (M old) (Q old) (told_at s.files fs (λ f. (c : Files) → s.leaves c → M (file_of file f) (file_of file c)) is here) (imp old)
-          (told_at s.files fs (λ _. (c : Files) → s.since s.moment c → s.leaves c) is only),
+          (told_at s.files fs (λ _. (c : Files) → since s s.moment c → s.leaves c) is only),
     ))
 
 -- where nothing is pending, a crash leaves the old bytes, which have F
@@ -162,7 +208,7 @@ run_begins_settled s file F Q start only settled facts = both_by s.files s.files
       fs,
       is,
       going_begins s fs file (λ x. F old × (x ≡ old)) (Q old) (λ c left. (fact, same c left)) (λ x m. subst (λ y. Q old y) (sym m.1) (start old m.0))
-          (told_at s.files fs (λ _. (c : Files) → s.since s.moment c → s.leaves c) is only),
+          (told_at s.files fs (λ _. (c : Files) → since s s.moment c → s.leaves c) is only),
     ))
 
 -- one call more on the same file

@@ -41,12 +41,12 @@ impl FileName {
     }
 }
 
-/// Six files under one clock of moments. A missing file has length 0, and no file is longer than 2^62 bytes.
+/// Six files under clocks of moments, which all go on by one with each call. A missing file has length 0, and no file is longer than 2^62 bytes.
 pub trait Disk {
     ghost use Rattle.std.specs.Prelude.{◌≡◌, ℕ, ◌+◌, ◌^◌, ◌<◌, ◌≤◌, length, IfOk, OnOk};
     ghost use Rattle.porch_edge.specs.Causes.{HasCause};
     ghost use Rattle.porch_edge.specs.Files.{Files, IsWithin};
-    ghost use Rattle.porch_edge.specs.Disk.{DiskState, Moment, IsBy, WhereTold, LenStep, ReadStep, WriteStep, CutStep, SyncStep};
+    ghost use Rattle.porch_edge.specs.Disk.{DiskState, Moment, IsBy, since, WhereTold, LenStep, ReadStep, WriteStep, CutStep, SyncStep};
 
     /// What the disk tells of its files, and of the crashes that it may have.
     ghost state: { Self → DiskState };
@@ -88,11 +88,14 @@ pub trait Disk {
     /// The disk as it reads is one of those that a crash may leave.
     ghost reads_leave: { (d : Self) → WhereTold (state d) (λ fs. (state d).leaves fs) };
 
-    /// What a crash may leave now belongs to what one may have left since any moment up to now.
-    ghost counts_now: { (d : Self) → WhereTold (state d) (λ _. (t : Moment) (c : Files) → IsBy t (state d).moment → (state d).leaves c → (state d).since t c) };
+    /// What a crash may leave now is what one at this moment may leave.
+    ghost counts_now: { (d : Self) → WhereTold (state d) (λ _. (c : Files) → (state d).leaves c → (state d).at (state d).moment c) };
 
     /// Since this moment there is no other.
-    ghost only_now: { (d : Self) → WhereTold (state d) (λ _. (c : Files) → (state d).since (state d).moment c → (state d).leaves c) };
+    ghost only_now: { (d : Self) → WhereTold (state d) (λ _. (c : Files) → since (state d) (state d).moment c → (state d).leaves c) };
+
+    /// No moment behind this one is passed.
+    ghost up_to_now: { (d : Self) → WhereTold (state d) (λ _. (m : Moment) (c : Files) → (state d).at m c → IsBy m (state d).moment) };
 
     /// No file is longer than 2^62 bytes.
     ghost is_within: { (d : Self) → WhereTold (state d) IsWithin };

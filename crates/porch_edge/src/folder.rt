@@ -180,6 +180,8 @@ impl<R: Runtime<File = File>> Disk for DirDisk<R> {
 
     ghost only_now = { λ d. tt };
 
+    ghost up_to_now = { λ d. tt };
+
     ghost is_within = { λ d. tt };
 }
 

@@ -1,14 +1,15 @@
 //! What joins calls on a disk that come one after another. The functions do nothing: each says a law.
 //!
 //! A clause can't speak of every state and every predicate, so the laws are said of a disk's own states and of tests
-//! on bytes. They are instances of the facts that `specs/Runs.antt` proves of all, which proofs in crates above cite.
+//! on bytes. They are instances of the facts that `specs/Runs.antt` and `specs/Others.antt` prove of all, which proofs in crates
+//! above cite.
 
-ghost use Rattle.std.specs.Prelude.{ℕ, List, Bool, IsTrue};
+ghost use Rattle.std.specs.Prelude.{◌≢◌, ℕ, List, Bool, IsTrue};
 ghost use Rattle.std.specs.declared.result.Result.{Result};
 ghost use Rattle.porch_edge.specs.declared.disk.FileName.{FileName};
 ghost use Rattle.porch_edge.specs.declared.failed.Failed.{Failed};
-ghost use Rattle.porch_edge.specs.Files.{Shortened, Marred};
-ghost use Rattle.porch_edge.specs.Disk.{LenStep, ReadStep, WriteStep, CutStep, SyncStep, TornWrite, IsSettled, OnlyLooks, HasNow};
+ghost use Rattle.porch_edge.specs.Files.{Files, file_of, Shortened, Marred};
+ghost use Rattle.porch_edge.specs.Disk.{WhereTold, LenStep, ReadStep, WriteStep, CutStep, SyncStep, TornWrite, IsSettled, HasFront, OnlyLooks, HasNow, SparesOne};
 ghost use Rattle.porch_edge.specs.Runs.{KeepsPassing, TouchesPassing};
 
 use crate::Disk;
@@ -86,4 +87,59 @@ pub fn runs_join<D: Disk>()
         → TouchesPassing (D.state s) (D.state t) file test
         → TouchesPassing (D.state t) (D.state u) file (λ _ x. holds x)
         → TouchesPassing (D.state s) (D.state u) file test }
+{}
+
+/// A call that changes nothing spares each file, and a write or a cut each other one: reads give of it what they gave,
+/// and at each moment a crash leaves of it what it might leave before. So do runs of such calls.
+pub fn calls_spare<D: Disk>()
+    ensures len { (s t : D) (file other : FileName) (r : Result ℕ Failed)
+        → LenStep (D.state s) (D.state t) file r → SparesOne (D.state s) (D.state t) other }
+    ensures read { (s t : D) (file other : FileName) (at : ℕ) (before after : List ℕ)
+        (r : Result ℕ Failed)
+        → ReadStep (D.state s) (D.state t) file at before after r
+        → SparesOne (D.state s) (D.state t) other }
+    ensures write { (s t : D) (file other : FileName) (at : ℕ) (bytes : List ℕ)
+        (r : Result (Unit {0}) Failed)
+        → other ≢ file → WriteStep (D.state s) (D.state t) file at bytes r
+        → SparesOne (D.state s) (D.state t) other }
+    ensures cut { (s t : D) (file other : FileName) (len : ℕ) (r : Result (Unit {0}) Failed)
+        → other ≢ file → CutStep (D.state s) (D.state t) file len r
+        → SparesOne (D.state s) (D.state t) other }
+    ensures sync { (s t : D) (file other : FileName) (r : Result (Unit {0}) Failed)
+        → SyncStep (D.state s) (D.state t) file r → SparesOne (D.state s) (D.state t) other }
+    ensures looks { (s t : D) (other : FileName)
+        → OnlyLooks (D.state s) (D.state t) → SparesOne (D.state s) (D.state t) other }
+    ensures run { (s t : D) (file other : FileName) (test : List ℕ → List ℕ → Bool)
+        → other ≢ file → TouchesPassing (D.state s) (D.state t) file test
+        → SparesOne (D.state s) (D.state t) other }
+{}
+
+/// Two runs that spare a file are one.
+pub fn spares_join<D: Disk>()
+    ensures { (s t u : D) (file : FileName)
+        → SparesOne (D.state s) (D.state t) file → SparesOne (D.state t) (D.state u) file
+        → SparesOne (D.state s) (D.state u) file }
+{}
+
+/// Of a file that is spared all stays: what reads give of it, alone and with another file that is spared, what a crash
+/// may leave of it, that nothing is pending in it, and that a crash leaves its first byte as it reads.
+pub fn spares_keep<D: Disk>()
+    ensures reads { (s t : D) (file : FileName) (test : List ℕ → Bool)
+        → WhereTold (D.state s) (λ fs. IsTrue (test (file_of file fs)))
+        → SparesOne (D.state s) (D.state t) file
+        → WhereTold (D.state t) (λ gs. IsTrue (test (file_of file gs))) }
+    ensures both { (s t : D) (one other : FileName) (test : List ℕ → List ℕ → Bool)
+        → WhereTold (D.state s) (λ fs. IsTrue (test (file_of one fs) (file_of other fs)))
+        → SparesOne (D.state s) (D.state t) one → SparesOne (D.state s) (D.state t) other
+        → WhereTold (D.state t) (λ gs. IsTrue (test (file_of one gs) (file_of other gs))) }
+    ensures leaves { (s t : D) (file : FileName) (test : List ℕ → List ℕ → Bool)
+        → WhereTold (D.state s) (λ fs. (c : Files) → (D.state s).leaves c
+        → IsTrue (test (file_of file fs) (file_of file c)))
+        → SparesOne (D.state s) (D.state t) file
+        → WhereTold (D.state t) (λ gs. (c : Files) → (D.state t).leaves c
+        → IsTrue (test (file_of file gs) (file_of file c))) }
+    ensures settled { (s t : D) (file : FileName) → IsSettled (D.state s) file
+        → SparesOne (D.state s) (D.state t) file → IsSettled (D.state t) file }
+    ensures front { (s t : D) (file : FileName) → HasFront (D.state s) file
+        → SparesOne (D.state s) (D.state t) file → HasFront (D.state t) file }
 {}

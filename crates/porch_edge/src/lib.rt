@@ -26,7 +26,10 @@ pub mod standard;
 pub use disk::{Disk, FileName};
 pub use failed::Failed;
 pub use folder::DirDisk;
-pub use laws::{calls_look, changes_join, looks_join, runs_begin, runs_go_on, runs_join};
+pub use laws::{
+    calls_look, calls_spare, changes_join, looks_join, runs_begin, runs_go_on, runs_join,
+    spares_join, spares_keep,
+};
 pub use memory_disk::MemDisk;
 pub use memory_plan::{Pick, Stop};
 pub use memory_sink::MemSink;

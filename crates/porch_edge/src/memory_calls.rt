@@ -29,6 +29,8 @@ pub struct Call {
     pub change: Change,
     /// The bytes of the file from before it, where it has changed them.
     pub before: Vec<u8>,
+    /// Its moment, as one of all the calls and puts, from 1.
+    pub moment: u64,
 }
 
 /// Keeps a call that changes no byte. Want of memory leaves everything as it was.
@@ -37,8 +39,9 @@ pub(crate) fn note(
     calls: &mut Vec<Call>,
     file: FileName,
     change: Change,
+    moment: u64,
 ) -> Result<(), AllocError>
-    ensures ok { OnOk result (Noted calls.old.items calls.new.items file change) }
+    ensures ok { OnOk result (Noted calls.old.items calls.new.items file change moment) }
     ensures err { OnErr result (calls.new.items ≡ calls.old.items) }
 {
     calls.reserve(1)?;
@@ -49,6 +52,7 @@ pub(crate) fn note(
             file,
             change,
             before,
+            moment,
         },
     );
     Ok(())
@@ -62,12 +66,14 @@ pub(crate) fn write(
     file: FileName,
     at: u64,
     bytes: &[u8],
+    moment: u64,
 ) -> Result<(), AllocError>
     requires some { 0 < length bytes.now }
     requires short { at + length bytes.now ≤ 2 ^ 62 }
     ensures ok { OnOk result (Logged files.old files.new calls.old.items calls.new.items file
         (written (file_of file files.old) at bytes.now)
-        (Change.Write (min at (length (file_of file files.old))) (at + length bytes.now))) }
+        (Change.Write (min at (length (file_of file files.old))) (at + length bytes.now))
+        moment) }
     ensures files_err { OnErr result (files.new ≡ files.old) }
     ensures calls_err { OnErr result (calls.new.items ≡ calls.old.items) }
 {
@@ -80,6 +86,7 @@ pub(crate) fn write(
         file,
         Change::Write(from, at + bytes.len() as u64),
         next,
+        moment,
     )
 }
 
@@ -90,15 +97,16 @@ pub(crate) fn cut(
     calls: &mut Vec<Call>,
     file: FileName,
     len: u64,
+    moment: u64,
 ) -> Result<(), AllocError>
     requires { len < length (file_of file files.old) }
     ensures ok { OnOk result (Logged files.old files.new calls.old.items calls.new.items file
-        (take len (file_of file files.old)) (Change.Cut len)) }
+        (take len (file_of file files.old)) (Change.Cut len) moment) }
     ensures files_err { OnErr result (files.new ≡ files.old) }
     ensures calls_err { OnErr result (calls.new.items ≡ calls.old.items) }
 {
     let next = files.get(file)[..len as usize].to_vec(alloc)?;
-    exchange(files, calls, file, Change::Cut(len), next)
+    exchange(files, calls, file, Change::Cut(len), next, moment)
 }
 
 /// Gives a file other bytes, synced. Want of memory leaves everything as it was.
@@ -108,14 +116,15 @@ pub(crate) fn put(
     calls: &mut Vec<Call>,
     file: FileName,
     bytes: &[u8],
+    moment: u64,
 ) -> Result<(), AllocError>
-    ensures ok { OnOk result
-        (Logged files.old files.new calls.old.items calls.new.items file bytes.now Change.Put) }
+    ensures ok { OnOk result (Logged files.old files.new calls.old.items calls.new.items file
+        bytes.now Change.Put moment) }
     ensures files_err { OnErr result (files.new ≡ files.old) }
     ensures calls_err { OnErr result (calls.new.items ≡ calls.old.items) }
 {
     let next = bytes.to_vec(alloc)?;
-    exchange(files, calls, file, Change::Put, next)
+    exchange(files, calls, file, Change::Put, next, moment)
 }
 
 // Adds a call where there is room.
@@ -133,9 +142,10 @@ fn exchange(
     file: FileName,
     change: Change,
     next: Vec<u8>,
+    moment: u64,
 ) -> Result<(), AllocError>
-    ensures ok { OnOk result
-        (Logged files.old files.new calls.old.items calls.new.items file next.items change) }
+    ensures ok { OnOk result (Logged files.old files.new calls.old.items calls.new.items file
+        next.items change moment) }
     ensures files_err { OnErr result (files.new ≡ files.old) }
     ensures calls_err { OnErr result (calls.new.items ≡ calls.old.items) }
 {
@@ -147,6 +157,7 @@ fn exchange(
             file,
             change,
             before,
+            moment,
         },
     );
     Ok(())

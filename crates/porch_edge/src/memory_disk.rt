@@ -1,6 +1,8 @@
 //! A disk in memory, for tests and drills. Its calls can be made to fail, and it can be stopped in one of them.
-ghost use Rattle.std.specs.Prelude.{◌≡◌, ◌≤◌, ◌-◌, ◌++◌, length, take, drop, min, reverse, OnOk, OnErr};
-ghost use Rattle.porch_edge.specs.Causes.{Rose, HasCause};
+ghost use Rattle.std.specs.Prelude.{◌≡◌, ◌<◌, ◌≤◌, ◌+◌, ◌-◌, ◌^◌, ◌++◌, length, take, drop, min, reverse, OnOk, OnErr};
+ghost use Rattle.porch_edge.specs.Causes.{Rose, HasCause, faults_after};
+ghost use Rattle.porch_edge.specs.Calls.{last_moment, next_moment, end_of_time};
+ghost use Rattle.porch_edge.specs.Plan.{next_fate, plan_after};
 ghost use Rattle.porch_edge.specs.inside.Kept.{Kept};
 ghost use Rattle.porch_edge.specs.inside.Props.{kept_prop};
 
@@ -11,6 +13,9 @@ use crate::memory_plan::{Fate, Plan, Stop};
 use crate::{Disk, Failed, FileName, memory_picks};
 use std::alloc::{AllocError, Global};
 
+/// From this moment on no file is put: in the last one no call goes.
+const LAST_PUT: u64 = u64::MAX - 1;
+
 /// Six files in memory. It keeps a list of its calls, with the bytes that each has changed.
 #[derive(Drop)]
 pub struct MemDisk {
@@ -18,17 +23,20 @@ pub struct MemDisk {
     files: Contents,
     calls: Vec<Call>,
     plan: Plan,
+    // How many calls and puts there were, up to its last value.
+    clock: u64,
     // How many calls have failed, up to its last value.
     faults: u64,
     ghost kept: { Kept files (reverse calls.items) } by { kept_prop files (reverse calls.items) },
+    ghost past: { last_moment (reverse calls.items) ≤ clock },
 }
 
 impl MemDisk {
-    ghost use Rattle.std.specs.Prelude.{◌≡◌, ◌⊎◌, OnOk, OnErr};
-    ghost use Rattle.porch_edge.specs.Causes.{HasCause};
-    ghost use Rattle.porch_edge.specs.Files.{no_files, file_of, with_file};
-    ghost use Rattle.porch_edge.specs.Disk.{Stays, Follows};
-    ghost use Rattle.porch_edge.specs.Memory.{mem_state, files_held, plan_of, after_crash, IsFresh, IsUntouched, IsDurable};
+    ghost use Rattle.std.specs.Prelude.{◌≡◌, ◌⊎◌, ◌+◌, IsErr, OnOk, OnErr};
+    ghost use Rattle.porch_edge.specs.Causes.{HasCause, faults_after};
+    ghost use Rattle.porch_edge.specs.Files.{Files, no_files, file_of, with_file};
+    ghost use Rattle.porch_edge.specs.Disk.{Stays, Ticks, Turned, Follows, Passes};
+    ghost use Rattle.porch_edge.specs.Memory.{mem_state, files_held, plan_of, moment_of, after_crash, IsFresh, IsUntouched, IsDurable, Obeys};
     ghost use Rattle.porch_edge.specs.Plan.{plan_to_fail, plan_to_stop};
     ghost use Rattle.porch_edge.specs.declared.disk.FileName.{FileName};
     ghost use Rattle.porch_edge.specs.declared.memory_calls.Change.TheVariants.{Nothing, Synced};
@@ -46,6 +54,7 @@ impl MemDisk {
             files: Contents::empty(alloc),
             calls: Vec::new(alloc),
             plan: Plan::new(),
+            clock: 0,
             faults: 0,
         }
     }
@@ -62,6 +71,7 @@ impl MemDisk {
     pub fn fail_at(&mut self, call: u64)
         ensures plan { plan_of self.new ≡ plan_to_fail (plan_of self.old) call }
         ensures same { IsUntouched self.old self.new }
+        ensures moment { moment_of self.new ≡ moment_of self.old }
         ensures faults { self.new.faults ≡ self.old.faults }
     {
         self.plan.fail_at(call);
@@ -73,27 +83,40 @@ impl MemDisk {
     pub fn stop_at(&mut self, stop: Stop)
         ensures plan { plan_of self.new ≡ plan_to_stop (plan_of self.old) stop }
         ensures same { IsUntouched self.old self.new }
+        ensures moment { moment_of self.new ≡ moment_of self.old }
         ensures faults { self.new.faults ≡ self.old.faults }
     {
         self.plan.stop_at(stop);
     }
 
-    /// Replaces a file, with nothing pending in it. A file of more than 2^62 bytes is refused as one for which
-    /// there is no memory.
+    /// Replaces a file, with nothing pending in it. It has a moment of its own, as a call has. A file of more than
+    /// 2^62 bytes is refused as one for which there is no memory, and so is every file when just the last moment is
+    /// left.
     pub fn put(&mut self, file: FileName, bytes: &[u8]) -> Result<(), AllocError>
         ensures has { OnOk result
             (files_held self.new ≡ with_file file (files_held self.old) bytes.now) }
         ensures leaves { OnOk result
             (Follows file (λ _ c. c ≡ bytes.now)
             (mem_state self.old).leaves (mem_state self.new).leaves) }
+        ensures moment { OnOk result (moment_of self.new ≡ moment_of self.old + 1) }
+        ensures time { OnOk result (Passes (mem_state self.old) (mem_state self.new)
+            (Turned file (λ _ c. c ≡ bytes.now) (mem_state self.old).leaves)) }
         ensures refused { OnErr result (IsUntouched self.old self.new) }
         ensures plan { plan_of self.new ≡ plan_of self.old }
         ensures faults { self.new.faults ≡ self.old.faults }
     {
-        if bytes.len() as u64 > LONGEST {
+        if bytes.len() as u64 > LONGEST || self.clock >= LAST_PUT {
             return Err(AllocError);
         }
-        memory_calls::put(self.alloc, &mut self.files, &mut self.calls, file, bytes)
+        self.clock += 1;
+        memory_calls::put(
+            self.alloc,
+            &mut self.files,
+            &mut self.calls,
+            file,
+            bytes,
+            self.clock,
+        )
     }
 
     /// The disk after the crash, where it has stopped: its content is then the one that the pick names, and else the
@@ -111,6 +134,7 @@ impl MemDisk {
             mut files,
             calls,
             plan,
+            clock: _,
             faults,
         } = self;
         memory_picks::crash(alloc, &mut files, calls, plan.stopped);
@@ -119,26 +143,43 @@ impl MemDisk {
             files,
             calls: Vec::new(alloc),
             plan: Plan::new(),
+            clock: 0,
             faults,
         }
     }
 
+    // A call that fails without effect.
+    fn refused(&mut self) -> Result<(), Failed>
+        ensures failed { IsErr result }
+        ensures stays { Stays (mem_state self.old) (mem_state self.new)
+            (files_held self.old) (files_held self.new) }
+        ensures ticks { Ticks (mem_state self.old) (mem_state self.new)
+            (files_held self.old) (files_held self.new) result }
+        ensures obeys { (files : Files) → Obeys self.old self.new files result }
+        ensures cause { HasCause self.old.faults self.new.faults result }
+        ensures counted { self.new.faults ≡ faults_after self.old.faults result }
+    {
+        begin(&mut self.plan, &mut self.clock);
+        Err(counted(&mut self.faults))
+    }
+
     // A call that changes no byte.
-    fn noted(&mut self, fate: Fate, file: FileName, change: Change) -> Result<(), Failed>
+    fn noted(&mut self, file: FileName, change: Change) -> Result<(), Failed>
         requires { (change ≡ Nothing) ⊎ (change ≡ Synced) }
         ensures stays { Stays (mem_state self.old) (mem_state self.new)
             (files_held self.old) (files_held self.new) }
+        ensures ticks { Ticks (mem_state self.old) (mem_state self.new)
+            (files_held self.old) (files_held self.new) result }
         ensures durable { change ≡ Synced → OnOk result (IsDurable self.new file) }
-        ensures plan { plan_of self.new ≡ plan_of self.old }
-        ensures fails { fate ≡ Fails → IsUntouched self.old self.new }
-        ensures goes { OnOk result (fate ≡ Goes) }
+        ensures obeys { Obeys self.old self.new (files_held self.old) result }
         ensures cause { HasCause self.old.faults self.new.faults result }
+        ensures counted { self.new.faults ≡ faults_after self.old.faults result }
     {
-        match fate {
+        match begin(&mut self.plan, &mut self.clock) {
             Fate::Goes => {}
             Fate::Fails | Fate::Stops => return Err(counted(&mut self.faults)),
         }
-        match memory_calls::note(self.alloc, &mut self.calls, file, change) {
+        match memory_calls::note(self.alloc, &mut self.calls, file, change, self.clock) {
             Ok(()) => Ok(()),
             Err(_) => Err(counted(&mut self.faults)),
         }
@@ -146,12 +187,12 @@ impl MemDisk {
 }
 
 impl Disk for MemDisk {
-    ghost use Rattle.std.specs.Prelude.{◌+◌, ◌^◌, ◌<◌, IfOk};
-    ghost use Rattle.porch_edge.specs.Causes.{HasCause};
+    ghost use Rattle.std.specs.Prelude.{IfOk};
+    ghost use Rattle.porch_edge.specs.Causes.{HasCause, faults_after};
     ghost use Rattle.porch_edge.specs.Files.{file_of, with_file, written};
     ghost use Rattle.porch_edge.specs.Disk.{LenStep, ReadStep, WriteStep, CutStep, SyncStep};
     ghost use Rattle.porch_edge.specs.Memory.{mem_state, files_held, Obeys};
-    ghost use Rattle.porch_edge.specs.inside.MemoryLaws.{reads_leave, counts_now, only_now};
+    ghost use Rattle.porch_edge.specs.inside.MemoryLaws.{reads_leave, counts_now, only_now, up_to_now};
 
     ghost state = { mem_state };
 
@@ -161,10 +202,10 @@ impl Disk for MemDisk {
         ensures within { IfOk result (λ n. n ≤ 2 ^ 62) }
         ensures step { LenStep (mem_state self.old) (mem_state self.new) file result }
         ensures cause { HasCause self.old.faults self.new.faults result }
+        ensures counted { self.new.faults ≡ faults_after self.old.faults result }
         ensures obeys { Obeys self.old self.new (files_held self.old) result }
     {
-        let fate = self.plan.begin();
-        self.noted(fate, file, Change::Nothing)?;
+        self.noted(file, Change::Nothing)?;
         Ok(self.files.get(file).len() as u64)
     }
 
@@ -174,10 +215,10 @@ impl Disk for MemDisk {
         ensures step { ReadStep (mem_state self.old) (mem_state self.new)
             file at buf.old buf.new result }
         ensures cause { HasCause self.old.faults self.new.faults result }
+        ensures counted { self.new.faults ≡ faults_after self.old.faults result }
         ensures obeys { Obeys self.old self.new (files_held self.old) result }
     {
-        let fate = self.plan.begin();
-        self.noted(fate, file, Change::Nothing)?;
+        self.noted(file, Change::Nothing)?;
         Ok(copy_from(self.files.get(file), at, buf))
     }
 
@@ -186,18 +227,19 @@ impl Disk for MemDisk {
         ensures step { WriteStep (mem_state self.old) (mem_state self.new)
             file at bytes.now result }
         ensures cause { HasCause self.old.faults self.new.faults result }
+        ensures counted { self.new.faults ≡ faults_after self.old.faults result }
         ensures obeys { Obeys self.old self.new
             (with_file file (files_held self.old)
             (written (file_of file (files_held self.old)) at bytes.now))
             result }
     {
-        let fate = self.plan.begin();
         if at > LONGEST || bytes.len() as u64 > LONGEST - at {
-            return Err(counted(&mut self.faults));
+            return self.refused();
         }
         if bytes.is_empty() {
-            return self.noted(fate, file, Change::Nothing);
+            return self.noted(file, Change::Nothing);
         }
+        let fate = begin(&mut self.plan, &mut self.clock);
         if let Fate::Fails = fate {
             return Err(counted(&mut self.faults));
         }
@@ -208,6 +250,7 @@ impl Disk for MemDisk {
             file,
             at,
             bytes,
+            self.clock,
         );
         answer(fate, done, &mut self.faults)
     }
@@ -216,40 +259,68 @@ impl Disk for MemDisk {
         ensures within { OnOk result (len ≤ 2 ^ 62) }
         ensures step { CutStep (mem_state self.old) (mem_state self.new) file len result }
         ensures cause { HasCause self.old.faults self.new.faults result }
+        ensures counted { self.new.faults ≡ faults_after self.old.faults result }
         ensures obeys { Obeys self.old self.new
             (with_file file (files_held self.old) (take len (file_of file (files_held self.old))))
             result }
     {
-        let fate = self.plan.begin();
         if len > LONGEST {
-            return Err(counted(&mut self.faults));
+            return self.refused();
         }
         if self.files.get(file).len() as u64 <= len {
-            return self.noted(fate, file, Change::Nothing);
+            return self.noted(file, Change::Nothing);
         }
+        let fate = begin(&mut self.plan, &mut self.clock);
         if let Fate::Fails = fate {
             return Err(counted(&mut self.faults));
         }
-        let done = memory_calls::cut(self.alloc, &mut self.files, &mut self.calls, file, len);
+        let done = memory_calls::cut(
+            self.alloc,
+            &mut self.files,
+            &mut self.calls,
+            file,
+            len,
+            self.clock,
+        );
         answer(fate, done, &mut self.faults)
     }
 
     fn sync(&mut self, file: FileName) -> Result<(), Failed>
         ensures step { SyncStep (mem_state self.old) (mem_state self.new) file result }
         ensures cause { HasCause self.old.faults self.new.faults result }
+        ensures counted { self.new.faults ≡ faults_after self.old.faults result }
         ensures obeys { Obeys self.old self.new (files_held self.old) result }
     {
-        let fate = self.plan.begin();
-        self.noted(fate, file, Change::Synced)
+        self.noted(file, Change::Synced)
     }
 
     ghost reads_leave = { λ d. reads_leave d.files (reverse d.calls.items) d.kept };
 
-    ghost counts_now = { λ d. counts_now d.files (reverse d.calls.items) };
+    ghost counts_now = { λ d. counts_now d.files (reverse d.calls.items) d.clock d.past };
 
-    ghost only_now = { λ d. only_now d.files (reverse d.calls.items) };
+    ghost only_now = { λ d. only_now d.files (reverse d.calls.items) d.clock d.past };
+
+    ghost up_to_now = { λ d. up_to_now d.files (reverse d.calls.items) d.clock };
 
     ghost is_within = { λ d. d.kept.within };
+}
+
+// Counts the next call, and answers what is to come of it. In the last moment none goes.
+fn begin(plan: &mut Plan, clock: &mut u64) -> Fate
+    ensures planned { plan.new ≡ plan_after plan.old }
+    ensures moment { clock.new ≡ next_moment clock.old }
+    ensures within { clock.old ≤ end_of_time }
+    ensures fails { next_fate plan.old ≡ Fate.Fails → result ≡ Fate.Fails }
+    ensures goes { result ≡ Fate.Goes → next_fate plan.old ≡ Fate.Goes }
+    ensures before { result ≡ Fate.Goes → clock.new < end_of_time }
+    ensures last { clock.new ≡ end_of_time → result ≡ Fate.Fails }
+{
+    let fate = plan.begin();
+    *clock = clock.saturating_add(1);
+    if *clock == u64::MAX {
+        return Fate::Fails;
+    }
+    fate
 }
 
 // Copies what stands from a place on, as much as the buffer takes.
@@ -265,6 +336,7 @@ fn copy_from(bytes: &[u8], at: u64, buf: &mut [u8]) -> usize
 
 // Counts one more fault.
 fn counted(faults: &mut u64) -> Failed
+    ensures counted { faults.new ≡ min (faults.old + 1) (2 ^ 64 - 1) }
     ensures rose { Rose faults.old faults.new }
     ensures later { faults.old ≤ faults.new }
 {
@@ -277,6 +349,7 @@ fn answer(fate: Fate, done: Result<(), AllocError>, faults: &mut u64) -> Result<
     ensures done { OnErr done (OnOk result ⊥) }
     ensures goes { OnOk result (fate ≡ Fate.Goes) }
     ensures cause { HasCause faults.old faults.new result }
+    ensures counted { faults.new ≡ faults_after faults.old result }
 {
     match (fate, done) {
         (Fate::Goes, Ok(())) => Ok(()),

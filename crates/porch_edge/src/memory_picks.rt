@@ -98,6 +98,7 @@ fn undo_one(files: &mut Contents, settled: &mut [bool], call: Call)
         file,
         change,
         before,
+        moment: _,
     } = call;
     let index = index_of(file);
     if settled[index] {

@@ -5,15 +5,15 @@ use Rattle.std.specs.declared.result.Result.TheVariants.{Ok}
 use Rattle.porch_edge.specs.declared.disk.FileName.TheVariants.{Output as OutputFile}
 use Rattle.porch_edge.specs.declared.failed.Failed.{Failed}
 use Rattle.porch_edge.specs.Files.{Files}
-use Rattle.porch_edge.specs.Disk.{DiskState, Moment, IsBy, WhereTold, BothTell, IsSettled, WriteStep, CutStep, SyncStep}
+use Rattle.porch_edge.specs.Disk.{DiskState, Moment, since, WhereTold, BothTell, ButFor, IsSettled, WriteStep, CutStep, SyncStep}
 use Rattle.porch_edge.specs.Told.{when_told, told_at, tells_on, silent_on, both_by, second_told}
-use Rattle.porch_edge.specs.Runs.{OnlyNow, run_begins, run_write, run_cut, run_sync, run_touches, touches_run}
+use Rattle.porch_edge.specs.Runs.{OnlyNow, since_before, run_begins, run_write, run_cut, run_sync, run_touches, touches_run}
 use Rattle.porch_output.specs.Outputs.{BeginsWith, LeavesBeginning, KeepsBeginning, BeginsSince}
 use Rattle.porch_output.proofs.Begins.{begins_itself, torn, shortened, marred, fewer, appended}
 
 -- what the laws of a disk say of one state
 abbrev pub CountsNow : DiskState → Type 0
-CountsNow s = WhereTold s (λ _. (t : Moment) (c : Files) → IsBy t s.moment → s.leaves c → s.since t c)
+CountsNow s = WhereTold s (λ _. (c : Files) → s.leaves c → s.at s.moment c)
 
 abbrev pub ReadsLeave : DiskState → Type 0
 ReadsLeave s = WhereTold s (λ fs. s.leaves fs)
@@ -60,8 +60,8 @@ pub lasts : (s t : DiskState) (kept less : List ℕ) (mark : Moment) → CountsN
 lasts s t kept less mark counts imp keeps since =
     let leaves : LeavesBeginning kept s = when_told s.files _ (λ fs is.
     let so_far = told_at s.files fs (λ _. BeginsSince kept mark s) is since in
-    let now = told_at s.files fs (λ _. (u : Moment) (c : Files) → IsBy u s.moment → s.leaves c → s.since u c) is counts in
-    λ c left. so_far.each c (now mark c so_far.by left)) in
+    let now = told_at s.files fs (λ _. (c : Files) → s.leaves c → s.at s.moment c) is counts in
+    λ c left. so_far.each c (s.moment, so_far.by, now c left)) in
     let run = keeps leaves in
     second_told s.files t.files (λ _. BeginsSince less mark t) (both_by s.files t.files _ (λ none. silent_on s.files t.files _ none run) (λ fs is.
     let so_far = told_at s.files fs (λ _. BeginsSince kept mark s) is since in
@@ -69,15 +69,15 @@ lasts s t kept less mark counts imp keeps since =
       a.0,
       a.1,
       record {
-        by = λ clock. let one = so_far.by clock in let two = a.2.moments.later clock in omega (arith, one, two);
-        each = λ c left. ⊎_elim (λ past. imp c.output (so_far.each c past)) (λ here. here.2.bytes) (a.2.moments.before mark c so_far.by left);
+        by = λ clock. let one = so_far.by clock in let two = a.2.moments.time.later clock in omega (arith, one, two);
+        each = λ c left. ⊎_elim (λ past. imp c.output (so_far.each c past)) (λ here. here.2.bytes) (since_before s t (λ x. ButFor OutputFile s.leaves (λ bytes. BeginsWith less bytes) x) a.2.moments mark c left);
       },
     )))
 
 -- from a moment on at which nothing is pending
 pub from_here : (t : DiskState) → OnlyNow t → IsSettled t OutputFile → WhereTold t (λ gs. BeginsSince gs.output t.moment t)
 from_here t only settled = when_told t.files _ (λ gs is.
-    let now = told_at t.files gs (λ _. (c : Files) → t.since t.moment c → t.leaves c) is only in
+    let now = told_at t.files gs (λ _. (c : Files) → since t t.moment c → t.leaves c) is only in
     let there = told_at t.files gs (λ f. (c : Files) → t.leaves c → c.output ≡ f.output) is settled in
     record { by = λ clock. omega arith; each = λ c left. begins_itself gs.output c.output (there c (now c left)) })
 

@@ -2,7 +2,7 @@
 use Rattle.std.specs.Prelude.{◌≡◌, ℕ, ◌+◌, List, ◌++◌, length, true}
 use Rattle.porch_edge.specs.declared.disk.FileName.TheVariants.{Output as OutputFile}
 use Rattle.porch_edge.specs.Files.{Files}
-use Rattle.porch_edge.specs.Disk.{DiskState, Moment, IsBy, WhereTold, TouchesOnly}
+use Rattle.porch_edge.specs.Disk.{DiskState, Moment, IsBy, since, WhereTold, TouchesOnly}
 use Rattle.porch_output.specs.declared.output.Output.{Output}
 
 -- what waits to be written
@@ -40,4 +40,4 @@ KeepsBeginning kept old new = TouchesOnly old new OutputFile (λ _ bytes. Begins
 -- a crash at any moment since that one left a file that begins with these bytes
 pub record BeginsSince (kept : List ℕ) (mark : Moment) (disk : DiskState) : Type 0 where
   pub by : IsBy mark disk.moment
-  pub each : (c : Files) → disk.since mark c → BeginsWith kept c.output
+  pub each : (c : Files) → since disk mark c → BeginsWith kept c.output

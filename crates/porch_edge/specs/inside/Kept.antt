@@ -9,16 +9,16 @@ use Rattle.porch_edge.specs.Files.{Files, file_of, with_file, IsWithin, Torn, Sh
 use Rattle.porch_edge.specs.Calls.{change_on, bytes_before}
 
 -- one call more is kept, which has left its file so
-pub record Logged (fs gs : Files) (old new : List Call) (file : FileName) (bytes : List ℕ) (change : Change) : Type 0 where
+pub record Logged (fs gs : Files) (old new : List Call) (file : FileName) (bytes : List ℕ) (change : Change) (moment : ℕ) : Type 0 where
   pub before : Vec ℕ Global
   pub had : before.items ≡ file_of file fs
   pub has : gs ≡ with_file file fs bytes
-  pub kept : new ≡ old ++ record { file = file; change = change; before = before } ∷ []
+  pub kept : new ≡ old ++ record { file = file; change = change; before = before; moment = moment } ∷ []
 
 -- one call more is kept, which has changed no byte
-pub record Noted (old new : List Call) (file : FileName) (change : Change) : Type 0 where
+pub record Noted (old new : List Call) (file : FileName) (change : Change) (moment : ℕ) : Type 0 where
   pub before : Vec ℕ Global
-  pub kept : new ≡ old ++ record { file = file; change = change; before = before } ∷ []
+  pub kept : new ≡ old ++ record { file = file; change = change; before = before; moment = moment } ∷ []
 
 -- a call has done what it says to bytes that were so before it
 abbrev pub Did : Change → List ℕ → List ℕ → Type 0

@@ -1,14 +1,14 @@
 -- What a disk in memory tells keeps the laws of a disk.
-use Rattle.std.specs.Prelude.{ℕ, List, [], ◌∷◌, length, refl}
-use Rattle.std.proofs.Common.{inl, inr}
-use Rattle.std.proofs.Math.Nat.{not-suc-le_self}
+use Rattle.std.specs.Prelude.{ℕ, ◌≤◌, List, [], ◌∷◌, refl}
+use Rattle.std.proofs.Common.{inl, inr, arith}
+use Rattle.std.proofs.Math.Nat.{le_refl}
 use Rattle.porch_edge.specs.declared.disk.FileName.{FileName}
 use Rattle.porch_edge.specs.declared.memory_calls.Change.{Change}
 use Rattle.porch_edge.specs.declared.memory_calls.Change.TheVariants.{Nothing, Synced, Write, Cut, Put}
 use Rattle.porch_edge.specs.declared.memory_calls.Call.{Call}
 use Rattle.porch_edge.specs.Files.{Files, file_of}
-use Rattle.porch_edge.specs.Disk.{Moment, IsBy}
-use Rattle.porch_edge.specs.Calls.{change_on, bytes_before, LeavesBy, FileLeaves, Leaves, LeftSince}
+use Rattle.porch_edge.specs.Disk.{Moment, IsBy, since}
+use Rattle.porch_edge.specs.Calls.{change_on, bytes_before, LeavesBy, FileLeaves, Leaves, LeftAt, last_moment, memory_state}
 use Rattle.porch_edge.specs.inside.Kept.{Did, FileKept, Kept}
 
 reads_by : (x : Change) (before now : List ℕ) (past : List ℕ → Type 0) → Did x before now → past (bytes_before x before now) → LeavesBy x now past now
@@ -28,11 +28,21 @@ reads file now (call ∷ log) kept =
 pub reads_leave : (fs : Files) (log : List Call) → Kept fs log → Leaves fs log fs
 reads_leave fs log kept = λ file. reads file (file_of file fs) log (kept.each file)
 
-pub counts_now : (fs : Files) (log : List Call) (t : Moment) (c : Files) → IsBy t (λ _. length log) → Leaves fs log c → LeftSince fs log (t 0) c
-counts_now fs [] t c le left = left
-counts_now fs (call ∷ log) t c le left = inl left
+-- a moment from the last call on
+pub left_now : (fs : Files) (log : List Call) (m : ℕ) (c : Files) → last_moment log ≤ m → Leaves fs log c → LeftAt fs log m c
+left_now fs [] m c le left = left
+left_now fs (call ∷ log) m c le left = inl (le, left)
 
-pub only_now : (fs : Files) (log : List Call) (c : Files) → LeftSince fs log (length log) c → Leaves fs log c
-only_now fs [] c left = left
-only_now fs (call ∷ log) c (inl now) = now
-only_now fs (call ∷ log) c (inr past) = absurd (not-suc-le_self (length log) past.0)
+pub now_left : (fs : Files) (log : List Call) (m : ℕ) (c : Files) → last_moment log ≤ m → LeftAt fs log m c → Leaves fs log c
+now_left fs [] m c le left = left
+now_left fs (call ∷ log) m c le (inl here) = here.1
+now_left fs (call ∷ log) m c le (inr past) = absurd (omega (arith, le, past.0))
+
+pub counts_now : (fs : Files) (log : List Call) (now : ℕ) → last_moment log ≤ now → (c : Files) → Leaves fs log c → (memory_state fs log now).at (λ _. now) c
+counts_now fs log now le c left = (λ clock. refl, le_refl now, left_now fs log now c le left)
+
+pub up_to_now : (fs : Files) (log : List Call) (now : ℕ) (m : Moment) (c : Files) → (memory_state fs log now).at m c → IsBy m (λ _. now)
+up_to_now fs log now m c left = λ clock. omega (arith, left.0 clock, left.1)
+
+pub only_now : (fs : Files) (log : List Call) (now : ℕ) → last_moment log ≤ now → (c : Files) → since (memory_state fs log now) (λ _. now) c → Leaves fs log c
+only_now fs log now le c left = now_left fs log (left.0 0) c (omega (arith, le, left.1 0)) left.2.2

@@ -55,3 +55,12 @@ returns-then-first-gate-clause-moments g c =
     let read = first_read s0 c.args.file c.requires (g.met.D.Disk.only_now c.args.disk.now) Q (λ _. Unit {0}) (when_told s0.files _ (λ fs is. tt)) (λ old any. inl refl) s1 0 (0 ∷ []) c.read.new.buf c.read.result
     c.read.ensures.step in
     run_touches s0 s1 c.args.file (λ old x. Unit {0} × (x ≡ old)) Q (λ old x same. inl same.1) read
+
+pub returns-in_err-count-clause-moments : goal.returns-in_err-count-clause-moments
+returns-in_err-count-clause-moments g c =
+    let Q = OldOrClosed c.args.gate in
+    let s0 = g.D.Disk.state c.args.disk.now in
+    let s1 = g.D.Disk.state c.read.new.self in
+    let read = first_read s0 c.args.file c.requires (g.met.D.Disk.only_now c.args.disk.now) Q (λ _. Unit {0}) (when_told s0.files _ (λ fs is. tt)) (λ old any. inl refl) s1 0 (0 ∷ []) c.read.new.buf c.read.result
+    c.read.ensures.step in
+    run_touches s0 s1 c.args.file (λ old x. Unit {0} × (x ≡ old)) Q (λ old x same. inl same.1) read

@@ -7,4 +7,8 @@ pub returns-clause-step : goal.returns-clause-step
 returns-clause-step c = (
   c.noted.ensures.stays,
   on_ok_weaker c.noted.result (λ durable. λ f left. durable f left ∙ ap (λ (x : Files). file_of c.args.file x) c.noted.ensures.stays.same) (c.noted.ensures.durable refl),
+  c.noted.ensures.ticks,
 )
+
+pub returns-clause-cause : goal.returns-clause-cause
+returns-clause-cause c = c.noted.ensures.cause

@@ -1,6 +1,6 @@
-use Rattle.std.proofs.Common.{◌+◌, ◌-◌, ℕ, length, take, drop, arith, length-take, length-drop}
+use Rattle.std.proofs.Common.{◌+◌, ◌-◌, ℕ, [], refl, length, take, drop, arith, length-take, length-drop}
 use Rattle.porch_output.specs.Outputs.{text_of}
-use Rattle.porch_output.proofs.Keeps.{text_joins, lasts}
+use Rattle.porch_output.proofs.Keeps.{starts, text_starts, text_joins, lasts}
 use Rattle.porch_output.proofs.Passes.{next_piece}
 use Rattle.porch_output.proofs.output.Output.put.Goals as goal
 
@@ -8,6 +8,17 @@ pub returns-in_err-taken-clause-since : goal.returns-in_err-taken-clause-since
 returns-in_err-taken-clause-since g c = λ kept mark since.
     lasts (g.D.Disk.state c.args.disk.now) (g.D.Disk.state c.put_some.new.disk) kept kept mark (g.met.D.Disk.counts_now c.args.disk.now) (λ x begins. begins)
     (λ leaves. c.put_some.ensures.keeps c.args.disk.now kept (c.loop-taken.invariant.keeps kept leaves)) since
+
+pub loop-taken-init : goal.loop-taken-init
+loop-taken-init g c = record {
+  within = omega arith;
+  usable = c.requires.usable;
+  ready = c.requires.ready;
+  text = text_starts (g.D.Disk.state c.args.disk.now) (text_of c.args.self.now) [] refl;
+  size = omega arith;
+  keeps = λ kept leaves. starts (g.D.Disk.state c.args.disk.now) kept (g.met.D.Disk.only_now c.args.disk.now) leaves;
+  later = omega arith;
+}
 
 pub loop-taken-preserved : goal.loop-taken-preserved
 loop-taken-preserved g c =
