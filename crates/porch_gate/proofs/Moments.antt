@@ -3,12 +3,12 @@ use Rattle.std.proofs.Common.{◌≡◌, ℕ, ◌+◌, ◌<◌, List, [], ◌∷
 use Rattle.porch_edge.specs.declared.disk.FileName.{FileName}
 use Rattle.porch_edge.specs.declared.failed.Failed.{Failed}
 use Rattle.porch_edge.specs.Files.{Files, file_of, with_file, written}
-use Rattle.porch_edge.specs.Disk.{DiskState, WhereTold, IsSettled, ReadStep, WriteStep, CutStep, SyncStep, TornWrite, TouchesOnly, HasNow}
+use Rattle.porch_edge.specs.Disk.{DiskState, WhereTold, IsSettled, HasFront, ReadStep, WriteStep, CutStep, SyncStep, TornWrite, TouchesOnly, HasNow}
 use Rattle.porch_edge.specs.OneFile.{own_bytes, with_twice}
 use Rattle.porch_edge.specs.Told.{when_told, told_at, tells_on, silent_on, both_by, second_told}
 use Rattle.porch_edge.specs.Runs.{Run, OnlyNow, run_begins, run_begins_settled, run_read, run_write, run_cut, run_sync, run_touches, touches_weaken, touches_join}
 use Rattle.porch_gate.specs.declared.gate.Gate.{Gate}
-use Rattle.porch_gate.specs.Gates.{filled_bytes, HasNoLetter, IsSome, HasFront, ReadsNow, ReadsSameFirst, SameFirst, IsOpen}
+use Rattle.porch_gate.specs.Gates.{filled_bytes, HasNoLetter, IsSome, ReadsNow, ReadsSameFirst, SameFirst, IsOpen}
 use Rattle.porch_gate.proofs.Bytes.{Filling, some_first, filling_write, filling_cut, filling_marred, filled_is}
 
 -- what a law of a disk says of one state

@@ -26,10 +26,6 @@ HasNoLetter disk file gate = WhereTold disk (λ fs. ¬ (take 1 (file_of file fs)
 abbrev pub IsSome : DiskState → FileName → Type 0
 IsSome disk file = WhereTold disk (λ fs. 0 < length (file_of file fs))
 
--- a crash leaves the first byte as it reads
-abbrev pub HasFront : DiskState → FileName → Type 0
-HasFront disk file = WhereTold disk (λ fs. (c : Files) → disk.leaves c → take 1 (file_of file c) ≡ take 1 (file_of file fs))
-
 -- the bytes with the byte 0 in front, where they are empty or begin with the letter
 abbrev pub closed_bytes : Gate → List ℕ → List ℕ
 closed_bytes gate [] = 0 ∷ []

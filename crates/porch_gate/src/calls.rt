@@ -2,9 +2,9 @@
 ghost use Rattle.std.specs.Prelude.{◌≡◌, ◌+◌, ◌^◌, ◌<◌, ◌≤◌, ◌↔◌, length, take, IsTrue, IfOk, OnOk};
 ghost use Rattle.porch_edge.specs.Causes.{HasCause};
 ghost use Rattle.porch_edge.specs.Files.{file_of, written};
-ghost use Rattle.porch_edge.specs.Disk.{WhereTold, IsSettled, TouchesOnly, OnlyLooks, HasNow};
+ghost use Rattle.porch_edge.specs.Disk.{WhereTold, IsSettled, HasFront, TouchesOnly, OnlyLooks, HasNow};
 ghost use Rattle.porch_gate.specs.declared.gate.Gate.{Gate};
-ghost use Rattle.porch_gate.specs.Gates.{HasNoLetter, IsSome, HasFront, IsOpen, IsClosed, IsOpened, closed_bytes, filled_bytes, opened_bytes, ReadsNow, ReadsSameFirst, OldOrClosed, SameFirst, WholeOrClosed};
+ghost use Rattle.porch_gate.specs.Gates.{HasNoLetter, IsSome, IsOpen, IsClosed, IsOpened, closed_bytes, filled_bytes, opened_bytes, ReadsNow, ReadsSameFirst, OldOrClosed, SameFirst, WholeOrClosed};
 
 use crate::Gate;
 use porch_edge::{Disk, Failed, FileName};

@@ -8,13 +8,13 @@ use Rattle.porch_edge.specs.declared.disk.FileName.{FileName}
 use Rattle.porch_edge.specs.declared.disk.FileName.TheVariants.{CkA, CkB}
 use Rattle.porch_edge.specs.declared.failed.Failed.{Failed}
 use Rattle.porch_edge.specs.Files.{Files, file_of, with_file, written}
-use Rattle.porch_edge.specs.Disk.{DiskState, WhereTold, BothTell, ButFor, IsSettled, TouchesOnly, LeavesOnly, HasNow}
+use Rattle.porch_edge.specs.Disk.{DiskState, WhereTold, BothTell, ButFor, IsSettled, HasFront, TouchesOnly, LeavesOnly, HasNow}
 use Rattle.porch_edge.specs.OneFile.{own_bytes, with_twice}
 use Rattle.porch_edge.specs.Told.{when_told, told_at, tells_on, silent_on, both_by, second_told}
 use Rattle.porch_edge.specs.Runs.{leaves_weakens, leaves_joins, touches_weaken, touches_join}
 use Rattle.porch_gate.specs.declared.gate.Gate.{Gate}
 use Rattle.porch_gate.specs.Gates as gates
-use Rattle.porch_gate.specs.Gates.{closed_bytes, opened_bytes, HasFront, ReadsNow, ReadsSameFirst, OldOrClosed, WholeOrClosed}
+use Rattle.porch_gate.specs.Gates.{closed_bytes, opened_bytes, ReadsNow, ReadsSameFirst, OldOrClosed, WholeOrClosed}
 use Rattle.porch_store.specs.declared.number.TheConstants.{CHECKPOINT_LETTER, CHECKPOINT_LEAST}
 use Rattle.porch_store.specs.declared.newest.Newest.{Newest}
 use Rattle.porch_store.specs.declared.newest.Newest.TheVariants.{One, Tie}

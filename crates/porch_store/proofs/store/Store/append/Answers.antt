@@ -1,8 +1,8 @@
 use Rattle.std.proofs.Common.{◌+◌, List, ℕ, refl, subst, sym}
 use Rattle.porch_edge.specs.declared.disk.FileName.{FileName}
 use Rattle.porch_edge.specs.Files.{written}
-use Rattle.porch_edge.specs.Disk.{TouchesOnly}
-use Rattle.porch_gate.specs.Gates.{HasFront, IsSome, HasNoLetter, ReadsSameFirst, ReadsNow}
+use Rattle.porch_edge.specs.Disk.{HasFront, TouchesOnly}
+use Rattle.porch_gate.specs.Gates.{IsSome, HasNoLetter, ReadsSameFirst, ReadsNow}
 use Rattle.porch_store.specs.Checkpoints.{IsOpen}
 use Rattle.porch_store.specs.Taken.{older_of}
 use Rattle.porch_store.proofs.Commits.{the_gate, staying, fill_some, fill_front, fill_no_letter, fill_file, fill_keeps, fill_goes_on, fill_appended}
