@@ -5,10 +5,9 @@ use Rattle.std.specs.declared.result.Result.TheVariants.{Ok, Err}
 use Rattle.std.specs.declared.option.Option.{Option}
 use Rattle.std.specs.declared.option.Option.TheVariants.{Some}
 use Rattle.porch_edge.specs.declared.disk.FileName.{FileName}
-use Rattle.porch_edge.specs.declared.disk.FileName.TheVariants.{CkA, CkB}
 use Rattle.porch_edge.specs.declared.failed.Failed.{Failed}
 use Rattle.porch_edge.specs.Files.{Files, file_of, with_file, written}
-use Rattle.porch_edge.specs.Disk.{DiskState, WhereTold, BothTell, ButFor, IsSettled, HasFront, TouchesOnly, LeavesOnly, HasNow}
+use Rattle.porch_edge.specs.Disk.{DiskState, WhereTold, BothTell, ButFor, IsSettled, HasFront, TouchesOnly, HasNow}
 use Rattle.porch_edge.specs.OneFile.{own_bytes, with_twice}
 use Rattle.porch_edge.specs.Told.{when_told, told_at, tells_on, silent_on, both_by, second_told}
 use Rattle.porch_edge.specs.Runs.{leaves_weakens, leaves_joins, touches_weaken, touches_join}
@@ -18,8 +17,8 @@ use Rattle.porch_gate.specs.Gates.{closed_bytes, opened_bytes, ReadsNow, ReadsSa
 use Rattle.porch_store.specs.declared.number.TheConstants.{CHECKPOINT_LETTER, CHECKPOINT_LEAST}
 use Rattle.porch_store.specs.declared.newest.Newest.{Newest}
 use Rattle.porch_store.specs.declared.newest.Newest.TheVariants.{One, Tie}
-use Rattle.porch_store.specs.Checkpoints.{IsOpen, IsNewest, number_of, newest_number, whole_file}
-use Rattle.porch_store.specs.Taken.{older_of, newer_of, OldOrShut, OldClosedOrWhole, is_old, is_closed, is_whole, HasOldBytes, HasNewest, IsNew, KeepsNewest, KeepsOld, KeepsOldOrNew}
+use Rattle.porch_store.specs.Checkpoints.{IsOpen, IsNewest, number_of, whole_file}
+use Rattle.porch_store.specs.Taken.{older_of, newer_of, OldOrShut, OldClosedOrWhole, is_old, is_closed, is_whole, HasNewest, IsNew, KeepsNewest, KeepsOld, KeepsOldOrNew}
 use Rattle.porch_store.specs.Stores.{Knows, Fills, IsBelow, behind_first}
 use Rattle.porch_store.proofs.Lists.{behind_length, behind_grown, long_grown, sealed_length, not_open, opened_whole, closed_first}
 use Rattle.porch_store.proofs.Ranks.{IsBeyond, beyond_both, stays, old_bytes, old_twice, same_number, taken_of_tie, not_new, new_rank, settled_older, settled_newer, settles}

@@ -2,3 +2,5 @@ pub mod Lists
 pub mod Ranks
 pub mod Commits
 pub mod Starts
+pub mod Fronts
+pub mod Numbers

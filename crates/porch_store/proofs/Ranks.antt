@@ -1,14 +1,13 @@
 -- Which of two files is the newest, and stays it.
-use Rattle.std.proofs.Common.{◌≡◌, ◌≢◌, ◌⊎◌, inl, inr, ℕ, ◌<◌, ◌≤◌, List, ◌∷◌, length, refl, sym, ◌∙◌, ap, subst, arith}
+use Rattle.std.proofs.Common.{◌≡◌, ◌≢◌, inl, inr, ℕ, ◌<◌, ◌≤◌, List, length, refl, sym, ◌∙◌, ap, subst, arith}
 use Rattle.std.specs.declared.option.Option.{Option}
 use Rattle.std.specs.declared.option.Option.TheVariants.{Some}
-use Rattle.porch_edge.specs.declared.disk.FileName.{FileName}
 use Rattle.porch_edge.specs.declared.disk.FileName.TheVariants.{Program, Output, CkA, CkB, Layouts, Input}
 use Rattle.porch_edge.specs.Files.{Files, file_of, with_file}
 use Rattle.porch_store.specs.declared.newest.Newest.{Newest}
 use Rattle.porch_store.specs.declared.newest.Newest.TheVariants.{Neither, One, Tie}
 use Rattle.porch_store.specs.Checkpoints.{IsOpen, Outranks, IsNewest, number_of, newest_number, whole_file}
-use Rattle.porch_store.specs.Taken.{older_of, newer_of, OldOrShut, HasOldBytes, HasNewest, KeepsNewest}
+use Rattle.porch_store.specs.Taken.{older_of, newer_of, OldOrShut, HasOldBytes, HasNewest}
 use Rattle.porch_store.specs.Stores.{IsBelow}
 
 same_rank : (a b c d : List ℕ) → c ≡ a → d ≡ b → Outranks a b → Outranks c d
@@ -50,7 +49,7 @@ beyond_both Tie fs known number no_tie was is below = absurd (no_tie refl)
 
 -- a file that is old or closed changes nothing of the newest
 pub not_new : (newest : Newest) (fs c : Files) → newest ≢ Tie → IsNewest newest fs → file_of (newer_of newest) c ≡ file_of (newer_of newest) fs
-      → OldOrShut (file_of (older_of newest) fs) (file_of (older_of newest) c) → HasNewest newest fs c
+    → OldOrShut (file_of (older_of newest) fs) (file_of (older_of newest) c) → HasNewest newest fs c
 not_new Neither fs c no_tie was other (inl old) = ((λ o. was.0 (subst IsOpen old o), λ o. was.1 (subst IsOpen other o)), tt)
 not_new Neither fs c no_tie was other (inr closed) = ((closed, λ o. was.1 (subst IsOpen other o)), tt)
 not_new (One CkA) fs c no_tie was other (inl old) = (same_rank fs.ck_a fs.ck_b c.ck_a c.ck_b other old was, other)

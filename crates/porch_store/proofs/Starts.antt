@@ -1,18 +1,17 @@
 -- What attaching or starting a store shows of its disk, and leaves there.
-use Rattle.std.proofs.Common.{◌≡◌, ◌⊎◌, ⊎_elim, inl, inr, ℕ, List, refl, sym, ◌∙◌, ap, subst}
+use Rattle.std.proofs.Common.{◌≡◌, inl, inr, ℕ, List, refl, sym, ◌∙◌, ap, subst}
 use Rattle.std.specs.declared.option.Option.{Option}
 use Rattle.std.specs.declared.option.Option.TheVariants.{None}
-use Rattle.porch_edge.specs.declared.disk.FileName.{FileName}
 use Rattle.porch_edge.specs.declared.disk.FileName.TheVariants.{CkA, CkB}
-use Rattle.porch_edge.specs.Files.{Files, file_of, with_file, Changed}
-use Rattle.porch_edge.specs.Disk.{DiskState, WhereTold, BothTell, ButFor, IsSettled, OnlyLooks, TouchesOnly, HasNow}
+use Rattle.porch_edge.specs.Files.{Files, with_file}
+use Rattle.porch_edge.specs.Disk.{DiskState, WhereTold, ButFor, IsSettled, OnlyLooks, TouchesOnly, HasNow}
 use Rattle.porch_edge.specs.Told.{when_told, told_at, tells_on, silent_on, both_by, second_told}
 use Rattle.porch_edge.specs.Runs.{leaves_weakens, leaves_joins}
 use Rattle.porch_store.specs.declared.newest.Newest.{Newest}
 use Rattle.porch_store.specs.declared.newest.Newest.TheVariants.{Neither}
 use Rattle.porch_store.specs.Checkpoints.{IsOpen, IsNewest, newest_number}
 use Rattle.porch_store.specs.inside.Numbers.{HasNumber}
-use Rattle.porch_store.specs.Taken.{OldOrShut, Shuts, ButShut, ShutsOn, OnlyShuts}
+use Rattle.porch_store.specs.Taken.{OldOrShut, Shuts, ButShut, OnlyShuts}
 use Rattle.porch_store.specs.declared.store.Store.{Store}
 use Rattle.porch_store.specs.Stores.{newest_known, number_known, Knows, IsReady}
 

@@ -1,4 +1,4 @@
-use Rattle.std.proofs.Common.{◌+◌, List, ℕ, refl, subst, sym}
+use Rattle.std.proofs.Common.{◌+◌, refl, subst, sym}
 use Rattle.porch_edge.specs.declared.disk.FileName.{FileName}
 use Rattle.porch_edge.specs.Files.{written}
 use Rattle.porch_edge.specs.Disk.{HasFront, TouchesOnly}

@@ -1,8 +1,8 @@
-use Rattle.std.proofs.Common.{List, ℕ, subst, sym}
+use Rattle.std.proofs.Common.{subst, sym}
 use Rattle.porch_edge.specs.declared.disk.FileName.{FileName}
 use Rattle.porch_edge.specs.Disk.{IsSettled, TouchesOnly, HasNow}
 use Rattle.porch_gate.specs.Gates.{closed_bytes}
-use Rattle.porch_store.specs.Taken.{OldOrShut, older_of}
+use Rattle.porch_store.specs.Taken.{OldOrShut}
 use Rattle.porch_store.proofs.Commits.{closing, begin_settled, begin_keeps, begin_fills}
 use Rattle.porch_store.proofs.store.Store.begin.Goals as goal
 

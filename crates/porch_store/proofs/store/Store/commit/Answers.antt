@@ -1,4 +1,4 @@
-use Rattle.std.proofs.Common.{◌≡◌, ℕ, List, [], ◌∷◌, sym, ◌∙◌, subst}
+use Rattle.std.proofs.Common.{ℕ, List, [], sym, ◌∙◌, subst}
 use Rattle.porch_edge.specs.Disk.{TouchesOnly, HasNow}
 use Rattle.porch_store.specs.declared.newest.Newest.{Newest}
 use Rattle.porch_store.specs.Checkpoints.{whole_file}

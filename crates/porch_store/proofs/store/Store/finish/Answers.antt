@@ -1,6 +1,6 @@
-use Rattle.std.proofs.Common.{◌+◌, ◌≤◌, List, ℕ, length, take, refl, sym, ◌∙◌, ap, subst, Some}
+use Rattle.std.proofs.Common.{◌+◌, ◌≤◌, length, take, refl, sym, ◌∙◌, ap, subst, Some}
 use Rattle.porch_edge.specs.declared.disk.FileName.{FileName}
-use Rattle.porch_edge.specs.Files.{Files, file_of}
+use Rattle.porch_edge.specs.Files.{file_of}
 use Rattle.porch_edge.specs.Disk.{WhereTold, HasFront, TouchesOnly, HasNow}
 use Rattle.porch_edge.specs.Runs.{now_joins}
 use Rattle.porch_gate.specs.Gates.{IsSome, HasNoLetter, WholeOrClosed, opened_bytes}
