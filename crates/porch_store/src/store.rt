@@ -188,7 +188,10 @@ impl Store {
         requires numbered { WhereTold (D.state disk.old)
             (λ fs. number_of (whole_file (appended self.old fs)) ≡ number_begun self.old) }
         ensures acknowledged { IfOk result
-            (λ ack. ack ≡ record { file = older_of (newest_known self.old); number = number_begun self.old }) }
+            (λ ack. ack ≡ record {
+              file = older_of (newest_known self.old);
+              number = number_begun self.old;
+            }) }
         ensures known { OnOk result
             (newest_known self.new ≡ Newest.One (older_of (newest_known self.old))) }
         ensures numbered { OnOk result (number_known self.new ≡ Some (number_begun self.old)) }
