@@ -21,6 +21,8 @@ pub mod Calls
 pub mod Picks
 -- what it tells
 pub mod Memory
+-- why it tells moments: a worked example
+pub mod Moments
 -- facts on the files where one of them got other bytes
 pub mod OneFile
 -- facts on what two calls tell

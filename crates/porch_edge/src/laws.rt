@@ -4,11 +4,13 @@
 //! on bytes. They are instances of the facts that `specs/Runs.antt` and `specs/Others.antt` prove of all, which proofs in crates
 //! above cite.
 
-ghost use Rattle.std.specs.Prelude.{◌≢◌, ℕ, List, Bool, IsTrue};
+ghost use Rattle.std.specs.Prelude.{◌≡◌, ◌≢◌, ℕ, List, [], Vec, Bool, IsTrue};
+ghost use Rattle.std.specs.declared.alloc.Global.{Global};
+ghost use Rattle.porch_edge.specs.Moments.{one_byte, IsAdmitted, IsLeft};
 ghost use Rattle.std.specs.declared.result.Result.{Result};
 ghost use Rattle.porch_edge.specs.declared.disk.FileName.{FileName};
 ghost use Rattle.porch_edge.specs.declared.failed.Failed.{Failed};
-ghost use Rattle.porch_edge.specs.Files.{Files, file_of, Shortened, Marred};
+ghost use Rattle.porch_edge.specs.Files.{Files, no_files, file_of, Shortened, Marred};
 ghost use Rattle.porch_edge.specs.Disk.{WhereTold, LenStep, ReadStep, WriteStep, CutStep, SyncStep, TornWrite, IsSettled, HasFront, OnlyLooks, HasNow, SparesOne};
 ghost use Rattle.porch_edge.specs.Runs.{KeepsPassing, TouchesPassing};
 
@@ -142,4 +144,15 @@ pub fn spares_keep<D: Disk>()
         → SparesOne (D.state s) (D.state t) file → IsSettled (D.state t) file }
     ensures front { (s t : D) (file : FileName) → HasFront (D.state s) file
         → SparesOne (D.state s) (D.state t) file → HasFront (D.state t) file }
+{}
+
+/// What a crash at some moment may have left of each of two disks isn't what a crash leaves of both: a byte that both
+/// get, the first disk before the second, isn't left on the second alone, though each disk may have been left so.
+pub fn moments_differ()
+    ensures admitted { (empty : Vec ℕ Global) → empty.items ≡ []
+        → IsAdmitted empty no_files one_byte }
+    ensures never_left { (empty : Vec ℕ Global) → empty.items ≡ []
+        → IsLeft empty no_files one_byte → ⊥ }
+    ensures else_left { (empty : Vec ℕ Global) → empty.items ≡ []
+        → IsLeft empty one_byte no_files }
 {}

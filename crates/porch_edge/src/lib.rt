@@ -27,8 +27,8 @@ pub use disk::{Disk, FileName};
 pub use failed::Failed;
 pub use folder::DirDisk;
 pub use laws::{
-    calls_look, calls_spare, changes_join, looks_join, runs_begin, runs_go_on, runs_join,
-    spares_join, spares_keep,
+    calls_look, calls_spare, changes_join, looks_join, moments_differ, runs_begin, runs_go_on,
+    runs_join, spares_join, spares_keep,
 };
 pub use memory_disk::MemDisk;
 pub use memory_plan::{Pick, Stop};

@@ -102,21 +102,24 @@ impl MemDisk {
         ensures time { OnOk result (Passes (mem_state self.old) (mem_state self.new)
             (Turned file (λ _ c. c ≡ bytes.now) (mem_state self.old).leaves)) }
         ensures refused { OnErr result (IsUntouched self.old self.new) }
+        ensures still { OnErr result (moment_of self.new ≡ moment_of self.old) }
         ensures plan { plan_of self.new ≡ plan_of self.old }
         ensures faults { self.new.faults ≡ self.old.faults }
     {
         if bytes.len() as u64 > LONGEST || self.clock >= LAST_PUT {
             return Err(AllocError);
         }
-        self.clock += 1;
+        let moment = self.clock + 1;
         memory_calls::put(
             self.alloc,
             &mut self.files,
             &mut self.calls,
             file,
             bytes,
-            self.clock,
-        )
+            moment,
+        )?;
+        self.clock = moment;
+        Ok(())
     }
 
     /// The disk after the crash, where it has stopped: its content is then the one that the pick names, and else the
