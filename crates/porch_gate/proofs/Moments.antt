@@ -8,7 +8,7 @@ use Rattle.porch_edge.specs.OneFile.{own_bytes, with_twice}
 use Rattle.porch_edge.specs.Told.{when_told, told_at, tells_on, silent_on, both_by, second_told}
 use Rattle.porch_edge.specs.Runs.{Run, OnlyNow, run_begins, run_begins_settled, run_read, run_write, run_cut, run_sync, run_touches, touches_weaken, touches_join}
 use Rattle.porch_gate.specs.declared.gate.Gate.{Gate}
-use Rattle.porch_gate.specs.Gates.{filled_bytes, HasNoLetter, IsSome, ReadsNow, ReadsSameFirst, SameFirst, IsOpen}
+use Rattle.porch_gate.specs.Gates.{filled_bytes, HasNoLetter, HasFirst, ReadsNow, ReadsSameFirst, SameFirst, IsOpen}
 use Rattle.porch_gate.proofs.Bytes.{Filling, some_first, filling_write, filling_cut, filling_marred, filled_is}
 
 -- what a law of a disk says of one state
@@ -42,7 +42,7 @@ module _ (s0 : DiskState) (file : FileName) (settled : IsSettled s0 file) (only 
           (λ old now x y fact same w. torn now old y same.0 (subst (λ z. TornWrite now at bytes z y) same.1 w)) imp (first_read m from buf after n read) step
 
 -- a run behind the first byte of a file
-module _ (s0 : DiskState) (file : FileName) (only : OnlyNow s0) (some : IsSome s0 file) (front : HasFront s0 file) where
+module _ (s0 : DiskState) (file : FileName) (only : OnlyNow s0) (some : HasFirst s0 file) (front : HasFront s0 file) where
   fronted : Run s0 s0 file Filling SameFirst
   fronted = run_begins s0 file Filling SameFirst (λ old x m. m.1) only (when_told s0.files _ (λ fs is c left.
       let long = told_at s0.files fs (λ f. 0 < length (file_of file f)) is some in
@@ -76,7 +76,7 @@ module _ (s0 s1 : DiskState) (file : FileName) (reads : ReadsLeave s1) (run : To
       let here : take 1 (file_of file a.0) ≡ take 1 (file_of file fs) = (a.2.now a.0 (told_at s1.files a.0 (λ f. s1.leaves f) a.1 reads)).2.bytes in
       (a.0, a.1, λ c left. (a.2.now c left).2.bytes ∙ sym here)))
 
-  pub some_stays : IsSome s0 file → IsSome s1 file
+  pub some_stays : HasFirst s0 file → HasFirst s1 file
   some_stays some = second_told s0.files s1.files (λ f. 0 < length (file_of file f)) (both_by s0.files s1.files _ (λ none. silent_on s0.files s1.files _ none run) (λ fs is.
       let a = tells_on s0.files s1.files _ fs is run in
       let here : take 1 (file_of file a.0) ≡ take 1 (file_of file fs) = (a.2.now a.0 (told_at s1.files a.0 (λ f. s1.leaves f) a.1 reads)).2.bytes in
@@ -119,7 +119,7 @@ sealed_now s0 s1 s2 file len w (Ok x) cut sync =
     (b.0, b.1, (b.2.0.same ∙ a.2.0.done, λ f left. b.2.1 f left ∙ ap (λ (g : Files). file_of file g) (sym b.2.0.same))))
 
 -- what a file has that was filled
-pub fill_now : (s0 s1 s2 : DiskState) (file : FileName) (bytes : List ℕ) (r : Result (Unit {0}) Failed) → IsSome s0 file → ReadsNow s0 s1 file (λ old. written old 1 bytes) → OnOk r (HasNow s1 s2 file (take (1 + length bytes)))
+pub fill_now : (s0 s1 s2 : DiskState) (file : FileName) (bytes : List ℕ) (r : Result (Unit {0}) Failed) → HasFirst s0 file → ReadsNow s0 s1 file (λ old. written old 1 bytes) → OnOk r (HasNow s1 s2 file (take (1 + length bytes)))
     → OnOk r (HasNow s0 s2 file (filled_bytes bytes))
 fill_now s0 s1 s2 file bytes (Err e) some wrote sealed = tt
 fill_now s0 s1 s2 file bytes (Ok x) some wrote sealed =

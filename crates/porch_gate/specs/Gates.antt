@@ -23,8 +23,8 @@ abbrev pub HasNoLetter : DiskState → FileName → Gate → Type 0
 HasNoLetter disk file gate = WhereTold disk (λ fs. ¬ (take 1 (file_of file fs) ≡ gate.letter ∷ []))
 
 -- a file has a first byte
-abbrev pub IsSome : DiskState → FileName → Type 0
-IsSome disk file = WhereTold disk (λ fs. 0 < length (file_of file fs))
+abbrev pub HasFirst : DiskState → FileName → Type 0
+HasFirst disk file = WhereTold disk (λ fs. 0 < length (file_of file fs))
 
 -- the bytes with the byte 0 in front, where they are empty or begin with the letter
 abbrev pub closed_bytes : Gate → List ℕ → List ℕ

@@ -4,7 +4,7 @@ ghost use Rattle.porch_edge.specs.Causes.{HasCause};
 ghost use Rattle.porch_edge.specs.Files.{file_of, written};
 ghost use Rattle.porch_edge.specs.Disk.{WhereTold, IsSettled, HasFront, TouchesOnly, OnlyLooks, HasNow};
 ghost use Rattle.porch_gate.specs.declared.gate.Gate.{Gate};
-ghost use Rattle.porch_gate.specs.Gates.{HasNoLetter, IsSome, IsOpen, IsClosed, IsOpened, closed_bytes, filled_bytes, opened_bytes, ReadsNow, ReadsSameFirst, OldOrClosed, SameFirst, WholeOrClosed};
+ghost use Rattle.porch_gate.specs.Gates.{HasNoLetter, HasFirst, IsOpen, IsClosed, IsOpened, closed_bytes, filled_bytes, opened_bytes, ReadsNow, ReadsSameFirst, OldOrClosed, SameFirst, WholeOrClosed};
 
 use crate::Gate;
 use porch_edge::{Disk, Failed, FileName};
@@ -53,7 +53,7 @@ pub fn write_behind<D: Disk>(
     piece: &[u8],
 ) -> Result<(), Failed>
     requires behind { 0 < at }
-    requires some { IsSome (D.state disk.old) file }
+    requires some { HasFirst (D.state disk.old) file }
     requires front { HasFront (D.state disk.old) file }
     ensures now { OnOk result
         (ReadsNow (D.state disk.old) (D.state disk.new) file (λ old. written old at piece.now)) }
@@ -73,7 +73,7 @@ pub fn write_behind<D: Disk>(
 /// too. `Failed` only where the disk failed.
 pub fn seal<D: Disk>(disk: &mut D, file: FileName, len: u64) -> Result<(), Failed>
     requires left { 0 < len }
-    requires some { IsSome (D.state disk.old) file }
+    requires some { HasFirst (D.state disk.old) file }
     requires front { HasFront (D.state disk.old) file }
     ensures now { OnOk result (HasNow (D.state disk.old) (D.state disk.new) file (take len)) }
     ensures first { ReadsSameFirst (D.state disk.old) (D.state disk.new) file }
@@ -92,7 +92,7 @@ pub fn seal<D: Disk>(disk: &mut D, file: FileName, len: u64) -> Result<(), Faile
 /// the disk failed.
 pub fn fill<D: Disk>(disk: &mut D, file: FileName, bytes: &[u8]) -> Result<(), Failed>
     requires settled { IsSettled (D.state disk.old) file }
-    requires some { IsSome (D.state disk.old) file }
+    requires some { HasFirst (D.state disk.old) file }
     ensures now { OnOk result
         (HasNow (D.state disk.old) (D.state disk.new) file (filled_bytes bytes.now)) }
     ensures moments { TouchesOnly (D.state disk.old) (D.state disk.new) file SameFirst }

@@ -4,3 +4,4 @@ pub mod Commits
 pub mod Starts
 pub mod Fronts
 pub mod Numbers
+pub mod Spared

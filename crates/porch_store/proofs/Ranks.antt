@@ -4,6 +4,7 @@ use Rattle.std.specs.declared.option.Option.{Option}
 use Rattle.std.specs.declared.option.Option.TheVariants.{Some}
 use Rattle.porch_edge.specs.declared.disk.FileName.TheVariants.{Program, Output, CkA, CkB, Layouts, Input}
 use Rattle.porch_edge.specs.Files.{Files, file_of, with_file}
+use Rattle.porch_edge.specs.Disk.{LeavesOf}
 use Rattle.porch_store.specs.declared.newest.Newest.{Newest}
 use Rattle.porch_store.specs.declared.newest.Newest.TheVariants.{Neither, One, Tie}
 use Rattle.porch_store.specs.Checkpoints.{IsOpen, Outranks, IsNewest, number_of, newest_number, whole_file}
@@ -140,3 +141,45 @@ settles (One Output) fs gs c one other whole = (whole, one ∙ sym other)
 settles (One Layouts) fs gs c one other whole = (whole, one ∙ sym other)
 settles (One Input) fs gs c one other whole = (whole, one ∙ sym other)
 settles Tie fs gs c one other whole = (whole, one ∙ sym other)
+
+-- what is said of the newest is said of the two checkpoint files alone
+pub same_newest : (newest : Newest) (fs gs : Files) → gs.ck_a ≡ fs.ck_a → gs.ck_b ≡ fs.ck_b → IsNewest newest fs → IsNewest newest gs
+same_newest Neither fs gs a b was = (subst (λ (l : List ℕ). ¬ IsOpen l) (sym a) was.0, subst (λ (l : List ℕ). ¬ IsOpen l) (sym b) was.1)
+same_newest (One CkA) fs gs a b was = same_rank fs.ck_a fs.ck_b gs.ck_a gs.ck_b a b was
+same_newest (One CkB) fs gs a b was = same_rank fs.ck_b fs.ck_a gs.ck_b gs.ck_a b a was
+same_newest (One Program) fs gs a b was = absurd was
+same_newest (One Output) fs gs a b was = absurd was
+same_newest (One Layouts) fs gs a b was = absurd was
+same_newest (One Input) fs gs a b was = absurd was
+same_newest Tie fs gs a b was = (subst IsOpen (sym a) was.0, subst IsOpen (sym b) was.1, ap (λ (l : List ℕ). number_of l) a ∙ was.2 ∙ ap (λ (l : List ℕ). number_of l) (sym b))
+
+pub number_stays : (newest : Newest) (fs gs : Files) → gs.ck_a ≡ fs.ck_a → gs.ck_b ≡ fs.ck_b → IsNewest newest fs → newest_number newest gs ≡ newest_number newest fs
+number_stays Neither fs gs a b was = refl
+number_stays (One CkA) fs gs a b was = ap (λ (l : List ℕ). Some (number_of l)) a
+number_stays (One CkB) fs gs a b was = ap (λ (l : List ℕ). Some (number_of l)) b
+number_stays (One Program) fs gs a b was = absurd was
+number_stays (One Output) fs gs a b was = absurd was
+number_stays (One Layouts) fs gs a b was = absurd was
+number_stays (One Input) fs gs a b was = absurd was
+number_stays Tie fs gs a b was = ap (λ (l : List ℕ). Some (number_of l)) a
+
+-- what a crash leaves of both files it leaves of the one that a commit takes and of the other
+pub left_older : (newest : Newest) (leaves : Files → Type 0) (c : Files) → LeavesOf CkA leaves c → LeavesOf CkB leaves c → LeavesOf (older_of newest) leaves c
+left_older Neither leaves c a b = a
+left_older (One CkA) leaves c a b = b
+left_older (One CkB) leaves c a b = a
+left_older (One Program) leaves c a b = a
+left_older (One Output) leaves c a b = a
+left_older (One Layouts) leaves c a b = a
+left_older (One Input) leaves c a b = a
+left_older Tie leaves c a b = a
+
+pub left_newer : (newest : Newest) (leaves : Files → Type 0) (c : Files) → LeavesOf CkA leaves c → LeavesOf CkB leaves c → LeavesOf (newer_of newest) leaves c
+left_newer Neither leaves c a b = b
+left_newer (One CkA) leaves c a b = a
+left_newer (One CkB) leaves c a b = b
+left_newer (One Program) leaves c a b = b
+left_newer (One Output) leaves c a b = b
+left_newer (One Layouts) leaves c a b = b
+left_newer (One Input) leaves c a b = b
+left_newer Tie leaves c a b = b

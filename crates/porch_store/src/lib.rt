@@ -6,6 +6,7 @@
 //! store knows in `specs/Stores.antt`.
 #![tactic(auto)]
 
+mod laws;
 mod load;
 mod newest;
 mod number;
@@ -13,6 +14,7 @@ mod settle;
 mod stage;
 mod store;
 
+pub use laws::stores_stay;
 pub use load::{LoadFault, load_file, load_front};
 pub use newest::Newest;
 pub use number::{CHECKPOINT_LEAST, CHECKPOINT_LETTER, checkpoint};

@@ -6,11 +6,9 @@ use crate::checkpoint::{disk_of, image, newest_of};
 use crate::counting::Counting;
 use crate::quiet::Quiet;
 use byteorder::{BigEndian, ByteOrder};
-use porch_edge::{DirDisk, Disk, Failed, FileName, MemDisk, Pick, Stop};
-use porch_store::{Ack, Newest, Store, load_file};
+use porch_edge::{Disk, Failed, FileName, MemDisk, Pick, Stop};
+use porch_store::{Ack, Newest, Store};
 use std::alloc::{AllocError, Global};
-use std::fs;
-use std::os::unix::fs::symlink;
 use std::test::Fail;
 
 fn is_below(known: Option<u64>, number: u64) -> bool
@@ -22,8 +20,8 @@ fn is_below(known: Option<u64>, number: u64) -> bool
     }
 }
 
-// Attaches a store and commits to it, where the number is beyond those that are there.
-fn commit_to<D: Disk>(disk: &mut D, bytes: &[u8]) -> Result<Option<Ack>, Failed> {
+/// Attaches a store and commits to it, where the number is beyond those that are there.
+pub fn commit_to<D: Disk>(disk: &mut D, bytes: &[u8]) -> Result<Option<Ack>, Failed> {
     let mut store = Store::attach(disk)?;
     if bytes.len() < 127 || matches!(store.newest(), Newest::Tie) {
         return Ok(None);
@@ -281,39 +279,5 @@ fn a_large_image_is_held_by_no_one(rt: HostRuntime) -> Result<(), Fail> {
     let done = commit_often(&mut disk, &[0; 65536], 4096);
     assert_eq!(rt; done, Ok(268_435_456));
     assert_eq!(rt; (disk.writes, disk.syncs), (4098, 5));
-    Ok(())
-}
-
-// Commits to the current folder where a folder stands in place of one file, or a link that can't be written.
-fn fails_in_folder(rt: &HostRuntime, disk: &mut DirDisk<HostRuntime>) -> Result<bool, Fail> {
-    // Nothing can be read or written where a folder stands.
-    fs::create_dir(rt, "ck.b")?;
-    let over_folder = commit_to(disk, &image(1)[1..]);
-    fs::remove_dir(rt, "ck.b")?;
-    // Nor can a file be made in a folder that gives no leave: in this one even the machine's owner has none.
-    symlink(rt, "/sys/kernel/ck.a", "ck.a")?;
-    let over_link = commit_to(disk, &image(1)[1..]);
-    fs::remove_file(rt, "ck.a")?;
-    Ok(over_folder == Err(Failed) && over_link == Err(Failed))
-}
-
-#[test]
-fn commits_go_to_a_real_folder(rt: HostRuntime) -> Result<(), Fail> {
-    let alloc = rt.alloc();
-    let mut disk = DirDisk::new(rt.clone()?);
-    assert_eq!(rt; fails_in_folder(&rt, &mut disk)?, true);
-    for number in 1..=3 {
-        let file = if number == 2 {
-            FileName::CkB
-        } else {
-            FileName::CkA
-        };
-        let ack = Ack { file, number };
-        assert_eq!(rt; commit_to(&mut disk, &image(number)[1..]), Ok(Some(ack)));
-        let whole = load_file(alloc, &mut disk, file)?;
-        assert_eq!(rt; whole.as_slice(), image(number).as_slice());
-    }
-    fs::remove_file(&rt, "ck.a")?;
-    fs::remove_file(&rt, "ck.b")?;
     Ok(())
 }

@@ -1,4 +1,4 @@
-//! The tests of gates, of the two checkpoint files and of the output: crashes, failing calls, and real folders.
+//! The tests of gates, of the two checkpoint files and of the output: crashes and failing calls.
 //!
 //! They stand in a crate of their own, as porch_tests does. `commit`, `start`, `load`, `gate` and `output` are each named
 //! for what they try; `checkpoint` makes files to try it on, `quiet` and `counting` are disks that tell nothing, so that

@@ -2,7 +2,7 @@ use Rattle.std.proofs.Common.{◌+◌, refl, subst, sym}
 use Rattle.porch_edge.specs.declared.disk.FileName.{FileName}
 use Rattle.porch_edge.specs.Files.{written}
 use Rattle.porch_edge.specs.Disk.{HasFront, TouchesOnly}
-use Rattle.porch_gate.specs.Gates.{IsSome, HasNoLetter, ReadsSameFirst, ReadsNow}
+use Rattle.porch_gate.specs.Gates.{HasFirst, HasNoLetter, ReadsSameFirst, ReadsNow}
 use Rattle.porch_store.specs.Checkpoints.{IsOpen}
 use Rattle.porch_store.specs.Taken.{older_of}
 use Rattle.porch_store.proofs.Commits.{the_gate, staying, fill_some, fill_front, fill_no_letter, fill_file, fill_keeps, fill_goes_on, fill_appended}
@@ -12,7 +12,7 @@ pub write_behind-requires-clause-some : goal.write_behind-requires-clause-some
 write_behind-requires-clause-some g c =
     let store = c.args.self.now in
     let s = g.D.Disk.state c.args.disk.now in
-    subst (λ (f : FileName). IsSome s f) (sym c.older-file.ensures) (fill_some store.newest store.number store.begun store.appended s s c.requires.ready)
+    subst (λ (f : FileName). HasFirst s f) (sym c.older-file.ensures) (fill_some store.newest store.number store.begun store.appended s s c.requires.ready)
 
 pub write_behind-requires-clause-front : goal.write_behind-requires-clause-front
 write_behind-requires-clause-front g c =

@@ -3,7 +3,7 @@ use Rattle.porch_edge.specs.declared.disk.FileName.{FileName}
 use Rattle.porch_edge.specs.Files.{file_of}
 use Rattle.porch_edge.specs.Disk.{WhereTold, HasFront, TouchesOnly, HasNow}
 use Rattle.porch_edge.specs.Runs.{now_joins}
-use Rattle.porch_gate.specs.Gates.{IsSome, HasNoLetter, WholeOrClosed, opened_bytes}
+use Rattle.porch_gate.specs.Gates.{HasFirst, HasNoLetter, WholeOrClosed, opened_bytes}
 use Rattle.porch_store.specs.declared.newest.Newest.TheVariants.{One}
 use Rattle.porch_store.specs.Checkpoints.{IsOpen}
 use Rattle.porch_store.specs.Taken.{older_of}
@@ -16,7 +16,7 @@ pub seal-requires-clause-some : goal.seal-requires-clause-some
 seal-requires-clause-some g c =
     let store = c.args.self.now in
     let s = g.D.Disk.state c.args.disk.now in
-    subst (λ (f : FileName). IsSome s f) (sym c.older-file.ensures) (fill_some store.newest store.number store.begun store.appended s s c.requires.ready)
+    subst (λ (f : FileName). HasFirst s f) (sym c.older-file.ensures) (fill_some store.newest store.number store.begun store.appended s s c.requires.ready)
 
 pub seal-requires-clause-front : goal.seal-requires-clause-front
 seal-requires-clause-front g c =
