@@ -228,16 +228,28 @@ fn a_commit_that_failed_is_made_again(rt: HostRuntime) -> Result<(), Fail> {
     Ok(())
 }
 
+// The newest and its number, over files with these bytes.
+fn newest_over(
+    alloc: Global,
+    in_a: &[u8],
+    in_b: &[u8],
+) -> Result<(Newest, Option<u64>), AllocError> {
+    let mut disk = MemDisk::new(alloc);
+    disk.put(FileName::CkA, in_a)?;
+    disk.put(FileName::CkB, in_b)?;
+    Ok(match Store::attach(&mut disk) {
+        Ok(store) => (store.newest(), store.number()),
+        Err(_) => (Newest::Neither, Some(0)),
+    })
+}
+
 #[test]
 fn one_number_in_both_is_a_tie(rt: HostRuntime) -> Result<(), Fail> {
-    let alloc = rt.alloc();
-    let mut disk = disk_of(alloc, Some(7), Some(7))?;
-    let store = Store::attach(&mut disk)?;
-    assert_eq!(rt; (store.newest(), store.number()), (Newest::Tie, Some(7)));
+    let tie = newest_over(rt.alloc(), &image(7), &image(7)[..150])?;
+    assert_eq!(rt; tie, (Newest::Tie, Some(7)));
     // Too short, and with another letter.
-    disk.put(FileName::CkA, &image(9)[..127])?;
-    disk.put(FileName::CkB, &[b'p'; 200])?;
-    assert_eq!(rt; newest_of(&mut disk), Ok(Newest::Neither));
+    let none = newest_over(rt.alloc(), &image(9)[..127], &[b'p'; 200])?;
+    assert_eq!(rt; none, (Newest::Neither, None));
     Ok(())
 }
 

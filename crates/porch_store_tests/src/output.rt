@@ -79,6 +79,29 @@ fn disk_of_6000(alloc: Global) -> Result<MemDisk, AllocError> {
     Ok(disk)
 }
 
+// Whether a stop there leaves the first 5,000 bytes, and all where the calls were made or what is pending is left.
+fn leaves_beginning(alloc: Global, stop: Stop, whole: &[u8; 9200]) -> Result<bool, AllocError> {
+    let mut disk = disk_of_6000(alloc)?;
+    disk.stop_at(stop);
+    let done = seven_calls(&mut disk);
+    let disk = disk.revive();
+    let left = disk.file(FileName::Output);
+    let is_made = stop.call == 8;
+    let is_whole = is_made || stop.call >= 6 && matches!(stop.pick, Pick::New);
+    let wanted = if is_made { Ok(9200) } else { Err(Failed) };
+    let is_left = left.starts_with(&whole[..5000]) && (left == whole.as_slice() || !is_whole);
+    Ok(done == wanted && is_left)
+}
+
+// Whether a call that fails there leaves them.
+fn keeps_beginning(alloc: Global, call: u64, whole: &[u8; 9200]) -> Result<bool, AllocError> {
+    let mut disk = disk_of_6000(alloc)?;
+    disk.fail_at(call);
+    let is_made = seven_calls(&mut disk).is_ok();
+    let is_left = disk.file(FileName::Output).starts_with(&whole[..5000]);
+    Ok(is_made == (call == 8) && is_left)
+}
+
 #[test]
 fn a_crash_leaves_the_beginning(rt: HostRuntime) -> Result<(), Fail> {
     let alloc = rt.alloc();
@@ -87,24 +110,9 @@ fn a_crash_leaves_the_beginning(rt: HostRuntime) -> Result<(), Fail> {
     whole[9000..].copy_from_slice(&[b'2'; 200]);
     for call in 1..=8 {
         for pick in [Pick::Old, Pick::New, Pick::Fill(0), Pick::Fill(255)] {
-            let mut disk = disk_of_6000(alloc)?;
-            disk.stop_at(Stop { call, pick });
-            let done = seven_calls(&mut disk);
-            assert_eq!(rt; done, if call == 8 { Ok(9200) } else { Err(Failed) });
-            let disk = disk.revive();
-            let left = disk.file(FileName::Output);
-            assert_eq!(rt; left.starts_with(&whole[..5000]), true);
-            if call == 8 || call >= 6 && matches!(pick, Pick::New) {
-                assert_eq!(rt; left, whole.as_slice());
-            }
+            assert_eq!(rt; leaves_beginning(alloc, Stop { call, pick }, &whole)?, true);
         }
-        let mut disk = disk_of_6000(alloc)?;
-        disk.fail_at(call);
-        assert_eq!(rt; seven_calls(&mut disk).is_ok(), call == 8);
-        assert_eq!(rt;
-            disk.file(FileName::Output).starts_with(&whole[..5000]),
-            true
-        );
+        assert_eq!(rt; keeps_beginning(alloc, call, &whole)?, true);
     }
     Ok(())
 }

@@ -2,7 +2,7 @@
 
 use crate::checkpoint::{image, newest_of};
 use crate::quiet::Quiet;
-use porch_edge::{FileName, MemDisk, Pick, Stop};
+use porch_edge::{Failed, FileName, MemDisk, Pick, Stop};
 use porch_store::{Ack, Newest, Store};
 use std::alloc::{AllocError, Global};
 use std::test::Fail;
@@ -31,6 +31,14 @@ fn put_kind(disk: &mut MemDisk, file: FileName, kind: Kind) -> Result<(), AllocE
     disk.put(file, &bytes_of(kind)[..len.min(200)])
 }
 
+// A disk with these two files.
+fn disk_with(alloc: Global, a: Kind, b: Kind) -> Result<MemDisk, AllocError> {
+    let mut disk = MemDisk::new(alloc);
+    put_kind(&mut disk, FileName::CkA, a)?;
+    put_kind(&mut disk, FileName::CkB, b)?;
+    Ok(disk)
+}
+
 // Whether a file has the bytes that it had, or is closed.
 fn is_old_or_shut(bytes: &[u8], kind: Kind) -> bool {
     let (_, len, _) = kind;
@@ -40,9 +48,7 @@ fn is_old_or_shut(bytes: &[u8], kind: Kind) -> bool {
 // Whether a start that is stopped there leaves each file old or closed, and both closed where it is made; it is made
 // where the stop is beyond its last call.
 fn is_right(alloc: Global, a: Kind, b: Kind, stop: Stop) -> Result<bool, AllocError> {
-    let mut disk = MemDisk::new(alloc);
-    put_kind(&mut disk, FileName::CkA, a)?;
-    put_kind(&mut disk, FileName::CkB, b)?;
+    let mut disk = disk_with(alloc, a, b)?;
     disk.stop_at(stop);
     let is_made = Store::start(&mut disk).is_ok();
     let mut disk = disk.revive();
@@ -71,23 +77,33 @@ fn a_crash_in_a_start_leaves_each_file_old_or_closed(rt: HostRuntime) -> Result<
     Ok(())
 }
 
+// Starts a store and commits checkpoint 1 to it. It says what was begun and what was finished.
+fn start_and_commit(disk: &mut Quiet) -> Result<(bool, Ack, Store), Failed> {
+    let mut store = Store::start(disk)?;
+    store.begin(disk, 1)?;
+    let is_filling = store.is_filling() && !store.is_spent();
+    store.append(disk, &image(1)[1..])?;
+    let ack = store.finish(disk)?;
+    Ok((is_filling, ack, store))
+}
+
+// Whether that goes as it should over two open files.
+fn is_committed(quiet: &mut Quiet) -> bool {
+    let file = FileName::CkA;
+    match start_and_commit(quiet) {
+        Ok((is_filling, ack, store)) => {
+            is_filling
+                && ack == Ack { file, number: 1 }
+                && store.newest() == Newest::One { file }
+                && quiet.disk.file(file) == image(1).as_slice()
+        }
+        Err(_) => false,
+    }
+}
+
 #[test]
 fn a_store_that_starts_goes_on(rt: HostRuntime) -> Result<(), Fail> {
-    let mut disk = MemDisk::new(rt.alloc());
-    put_kind(&mut disk, FileName::CkA, KINDS[0])?;
-    put_kind(&mut disk, FileName::CkB, KINDS[0])?;
-    let mut quiet = Quiet::over(disk);
-    let mut store = Store::start(&mut quiet)?;
-    store.begin(&mut quiet, 1)?;
-    assert_eq!(rt; (store.is_filling(), store.is_spent()), (true, false));
-    store.append(&mut quiet, &image(1)[1..])?;
-    let ack = store.finish(&mut quiet)?;
-    let file = FileName::CkA;
-    assert_eq!(rt; ack, Ack { file, number: 1 });
-    assert_eq!(rt;
-        (store.is_filling(), store.newest()),
-        (false, Newest::One { file })
-    );
-    assert_eq!(rt; quiet.disk.file(file), image(1).as_slice());
+    let mut quiet = Quiet::over(disk_with(rt.alloc(), KINDS[0], KINDS[0])?);
+    assert_eq!(rt; is_committed(&mut quiet), true);
     Ok(())
 }
