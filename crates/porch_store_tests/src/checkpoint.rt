@@ -21,7 +21,7 @@ pub fn disk_of(alloc: Global, in_a: Option<u64>, in_b: Option<u64>) -> Result<Me
         disk.put(FileName::CkA, &long)?;
     }
     if let Some(number) = in_b {
-        disk.put(FileName::CkB, &image(number)[..150])?;
+        put_front(&mut disk, FileName::CkB, &image(number), 150)?;
     }
     Ok(disk)
 }
@@ -29,4 +29,14 @@ pub fn disk_of(alloc: Global, in_a: Option<u64>, in_b: Option<u64>) -> Result<Me
 /// Which checkpoint is the newest, as a new store sees it.
 pub fn newest_of<D: Disk>(disk: &mut D) -> Result<Newest, Failed> {
     Ok(Store::attach(disk)?.newest())
+}
+
+// Puts the first bytes of a checkpoint into a file.
+fn put_front(
+    disk: &mut MemDisk,
+    file: FileName,
+    image: &[u8],
+    count: usize,
+) -> Result<(), AllocError> {
+    disk.put(file, &image[..count.min(image.len())])
 }

@@ -245,10 +245,11 @@ fn newest_over(
 
 #[test]
 fn one_number_in_both_is_a_tie(rt: HostRuntime) -> Result<(), Fail> {
-    let tie = newest_over(rt.alloc(), &image(7), &image(7)[..150])?;
+    let seven = image(7);
+    let tie = newest_over(rt.alloc(), &seven, &seven[..150])?;
     assert_eq!(rt; tie, (Newest::Tie, Some(7)));
     // Too short, and with another letter.
-    let none = newest_over(rt.alloc(), &image(9)[..127], &[b'p'; 200])?;
+    let none = newest_over(rt.alloc(), &seven[..127], &[b'p'; 200])?;
     assert_eq!(rt; none, (Newest::Neither, None));
     Ok(())
 }
