@@ -1,4 +1,4 @@
-//! What stays of a store over calls on other files. The functions do nothing: each says a law.
+//! What stays of a store over calls on other files. The function does nothing: it says laws.
 ghost use Rattle.porch_edge.specs.declared.disk.FileName.TheVariants.{CkA, CkB};
 ghost use Rattle.porch_edge.specs.Disk.{SparesOne};
 ghost use Rattle.porch_store.specs.Stores.{IsReady, MayFill};
@@ -8,7 +8,7 @@ use porch_edge::Disk;
 
 /// Over calls by which both checkpoint files are spared, as those on other files are, a store stays ready, and goes on
 /// filling a file.
-pub fn stores_stay<D: Disk>()
+pub fn store_stays<D: Disk>()
     ensures ready { (store : Store) (s t : D) → IsReady store (D.state s)
         → SparesOne (D.state s) (D.state t) CkA → SparesOne (D.state s) (D.state t) CkB
         → IsReady store (D.state t) }
