@@ -9,8 +9,8 @@ use Rattle.porch_edge.specs.Files.{Files, file_of, with_file, written, Shortened
 use Rattle.std.proofs.lemmas.List.{take_all}
 use Rattle.std.proofs.lemmas.Result.{on_ok_weaker}
 use Rattle.porch_edge.specs.Disk.{DiskState, Turned, Passes, Ticks, Stays, Follows, Alters, WriteStep, CutStep, TornWrite}
-use Rattle.porch_edge.specs.Calls.{bytes_before, LeavesBy, Leaves, end_of_time, next_moment, memory_state}
-use Rattle.porch_edge.specs.inside.Kept.{Did, Kept, Logged}
+use Rattle.porch_edge.specs.Calls.{bytes_before, LeavesBy, Leaves, end_of_time, memory_state}
+use Rattle.porch_edge.specs.inside.Kept.{Did, Kept, Logged, next_moment}
 use Rattle.porch_edge.specs.OneFile.{own_bytes}
 use Rattle.porch_edge.proofs.Steps.{in_any, passes, the_call, kept_changed, back, follows}
 use Rattle.porch_edge.proofs.MemorySteps.{in_any_err, ticks, log_of, log_more, torn_written, length-written, marred_shortened, alters_stays, torn_none, shortened_none, marred_none}

@@ -12,8 +12,8 @@ use Rattle.porch_edge.specs.declared.memory_calls.Change.TheVariants.{Nothing, S
 use Rattle.porch_edge.specs.declared.memory_calls.Call.{Call}
 use Rattle.porch_edge.specs.Files.{Files, file_of, with_file, written, padded_to, Torn, Shortened, Marred, Changed}
 use Rattle.porch_edge.specs.Disk.{DiskState, Turned, Passes, Rests, Ticks, Stays, Alters}
-use Rattle.porch_edge.specs.Calls.{Leaves, last_moment, end_of_time, next_moment, memory_state}
-use Rattle.porch_edge.specs.inside.Kept.{Kept, Noted, Logged}
+use Rattle.porch_edge.specs.Calls.{Leaves, end_of_time, memory_state}
+use Rattle.porch_edge.specs.inside.Kept.{Kept, Noted, Logged, last_moment, next_moment}
 use Rattle.porch_edge.specs.OneFile.{with_own}
 use Rattle.porch_edge.proofs.Steps.{in_any, passes, stays_none, the_call, keeps_nothing, kept_nothing, durable_synced, keeps_synced, kept_synced}
 

@@ -1,5 +1,5 @@
 -- What a kept call makes of what a disk in memory tells.
-use Rattle.std.proofs.Common.{◌≡◌, ◌≢◌, ◌==◌, inl, inr, ℕ, ◌+◌, ◌^◌, ◌<◌, ◌≤◌, List, ◌∷◌, length, true, false, Vec, refl, sym, ◌∙◌, ap, subst, arith, if◌then◌else◌, OnOk, Result, Ok, Err}
+use Rattle.std.proofs.Common.{◌≡◌, ◌≢◌, ◌==◌, inl, inr, ℕ, ◌+◌, ◌^◌, ◌≤◌, List, ◌∷◌, length, true, false, Vec, refl, sym, ◌∙◌, ap, subst, arith, if◌then◌else◌, OnOk, Result, Ok, Err}
 use Rattle.std.proofs.lemmas.Bool.{cases_lt}
 use Rattle.std.specs.declared.alloc.Global.{Global}
 use Rattle.porch_edge.specs.declared.disk.FileName.{FileName}
@@ -8,8 +8,8 @@ use Rattle.porch_edge.specs.declared.memory_calls.Change.TheVariants.{Nothing, S
 use Rattle.porch_edge.specs.declared.memory_calls.Call.{Call}
 use Rattle.porch_edge.specs.Files.{Files, file_of, with_file}
 use Rattle.porch_edge.specs.Disk.{Passes, Stays, Keeps, Follows}
-use Rattle.porch_edge.specs.Calls.{index_of, change_on, bytes_before, LeavesBy, FileLeaves, Leaves, files_before, LeftAt, last_moment, memory_state}
-use Rattle.porch_edge.specs.inside.Kept.{Did, FileKept, Kept}
+use Rattle.porch_edge.specs.Calls.{index_of, change_on, bytes_before, LeavesBy, FileLeaves, Leaves, files_before, LeftAt, memory_state}
+use Rattle.porch_edge.specs.inside.Kept.{Did, FileKept, Kept, last_moment}
 use Rattle.porch_edge.specs.inside.MemoryLaws.{reads, now_left}
 use Rattle.porch_edge.specs.OneFile.{own_bytes}
 use Rattle.porch_edge.proofs.Index.{other_bytes, same_test, other_test, with_back, by_file}

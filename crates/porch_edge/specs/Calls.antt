@@ -1,5 +1,5 @@
 -- What a crash may leave after the calls that a disk in memory keeps.
-use Rattle.std.specs.Prelude.{◌≡◌, ◌==◌, ℕ, ◌+◌, ◌-◌, ◌^◌, ◌<◌, ◌≤◌, ◌⊎◌, List, [], ◌∷◌, leb, min, if◌then◌else◌}
+use Rattle.std.specs.Prelude.{◌≡◌, ◌==◌, ℕ, ◌-◌, ◌^◌, ◌<◌, ◌≤◌, ◌⊎◌, List, [], ◌∷◌, leb, if◌then◌else◌}
 use Rattle.std.specs.declared.option.Option.TheVariants.{Some}
 use Rattle.porch_edge.specs.declared.disk.FileName.{FileName}
 use Rattle.porch_edge.specs.declared.disk.FileName.TheVariants.{Program, Output, CkA, CkB, Layouts, Input}
@@ -59,18 +59,9 @@ LeftAt fs [] m c = Leaves fs [] c
 LeftAt fs (call ∷ earlier) m c =
     ((call.moment ≤ m) × Leaves fs (call ∷ earlier) c) ⊎ ((m < call.moment) × LeftAt (files_before call fs) earlier m c)
 
--- the moment of the last of these calls
-abbrev pub last_moment : List Call → ℕ
-last_moment [] = 0
-last_moment (call ∷ earlier) = call.moment
-
 -- the last moment, in which no call goes
 abbrev pub end_of_time : ℕ
 end_of_time = 2 ^ 64 - 1
-
--- the moment of the next call
-abbrev pub next_moment : ℕ → ℕ
-next_moment now = min (now + 1) end_of_time
 
 -- all clocks show the same: it is that of one device
 abbrev pub IsOfOne : Moment → Type 0

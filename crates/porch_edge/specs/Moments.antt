@@ -1,6 +1,6 @@
 -- A worked example: why a disk tells moments. Two disks in memory get a byte each, the first one before the second. What a
 -- crash may have left of each since the start admits a byte on the second disk alone, which no crash leaves.
-use Rattle.std.specs.Prelude.{◌≡◌, ℕ, ◌+◌, ◌⊎◌, List, [], ◌∷◌, Vec}
+use Rattle.std.specs.Prelude.{◌≡◌, ℕ, ◌+◌, ◌⊎◌, [], ◌∷◌, Vec}
 use Rattle.std.specs.declared.alloc.Global.{Global}
 use Rattle.porch_edge.specs.declared.disk.FileName.TheVariants.{Output}
 use Rattle.porch_edge.specs.declared.memory_calls.Change.TheVariants.{Put}

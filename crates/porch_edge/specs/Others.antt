@@ -8,7 +8,7 @@ use Rattle.std.specs.declared.result.Result.TheVariants.{Ok, Err}
 use Rattle.porch_edge.specs.declared.disk.FileName.{FileName}
 use Rattle.porch_edge.specs.declared.failed.Failed.{Failed}
 use Rattle.porch_edge.specs.Files.{Files, file_of, Changed}
-use Rattle.porch_edge.specs.Disk.{DiskState, since, WhereTold, BothTell, Turned, Passes, Stays, Alters, LenStep, ReadStep, WriteStep, CutStep, SyncStep, LeavesOnly, ButFor, IsSettled, HasFront, TouchesOnly, OnlyLooks, LeavesOf, Spares, SparesOne}
+use Rattle.porch_edge.specs.Disk.{DiskState, since, WhereTold, Turned, Passes, Stays, Alters, LenStep, ReadStep, WriteStep, CutStep, SyncStep, LeavesOnly, ButFor, IsSettled, HasFront, TouchesOnly, OnlyLooks, LeavesOf, Spares, SparesOne}
 use Rattle.porch_edge.specs.OneFile.{other_bytes}
 use Rattle.porch_edge.specs.Told.{told_at, tells_on, silent_on, both_by, second_told}
 use Rattle.porch_edge.specs.Runs.{OnlyNow, passes_weakens, leaves_weakens, leaves_joins}
@@ -131,7 +131,8 @@ spares_reads s t other P holds run = second_told s.files t.files (λ gs. P (file
     let u = tells_on s.files t.files _ fs is run in
     (u.0, u.1, subst P (sym u.2.same) (told_at s.files fs (λ f. P (file_of other f)) is holds))))
 
-told_second : (s t : DiskState) (other : FileName) (fs gs : Files) → s.files ≡ Some fs → t.files ≡ Some gs → SparesOne s t other → file_of other gs ≡ file_of other fs
+-- the same, for files that are told to be those
+pub told_second : (s t : DiskState) (other : FileName) (fs gs : Files) → s.files ≡ Some fs → t.files ≡ Some gs → SparesOne s t other → file_of other gs ≡ file_of other fs
 told_second s t other fs gs was is run = let u = tells_on s.files t.files _ fs was run in ap (λ (f : Files). file_of other f) (same_some gs u.0 (sym is ∙ u.1)) ∙ u.2.same
 
 -- and of two files

@@ -1,9 +1,9 @@
 //! A disk in memory, for tests and drills. Its calls can be made to fail, and it can be stopped in one of them.
 ghost use Rattle.std.specs.Prelude.{◌≡◌, ◌<◌, ◌≤◌, ◌+◌, ◌-◌, ◌^◌, ◌++◌, length, take, drop, min, reverse, OnOk, OnErr};
 ghost use Rattle.porch_edge.specs.Causes.{Rose, HasCause, faults_after};
-ghost use Rattle.porch_edge.specs.Calls.{last_moment, next_moment, end_of_time};
+ghost use Rattle.porch_edge.specs.Calls.{end_of_time};
 ghost use Rattle.porch_edge.specs.Plan.{next_fate, plan_after};
-ghost use Rattle.porch_edge.specs.inside.Kept.{Kept};
+ghost use Rattle.porch_edge.specs.inside.Kept.{Kept, last_moment, next_moment};
 ghost use Rattle.porch_edge.specs.inside.Props.{kept_prop};
 
 use crate::contents::Contents;
@@ -16,7 +16,8 @@ use std::alloc::{AllocError, Global};
 /// From this moment on no file is put: in the last one no call goes.
 const LAST_PUT: u64 = u64::MAX - 1;
 
-/// Six files in memory. It keeps a list of its calls, with the bytes that each has changed.
+/// Six files in memory. It keeps a list of its calls, with the bytes that each has changed. Each call has a moment, one
+/// that fails without effect too. After 2^64 - 1 moments, which no run comes to, each call fails and changes nothing.
 #[derive(Drop)]
 pub struct MemDisk {
     alloc: Global,
@@ -123,7 +124,7 @@ impl MemDisk {
     }
 
     /// The disk after the crash, where it has stopped: its content is then the one that the pick names, and else the
-    /// one that reads give. Its calls are numbered from 1 again, and none is to fail. It takes no memory.
+    /// one that reads give. Its calls and moments are numbered from 1 again, and none is to fail. It takes no memory.
     pub fn revive(self) -> MemDisk
         ensures content { (file : FileName)
             → file_of file (files_held result) ≡ after_crash self file }

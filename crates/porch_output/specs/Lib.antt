@@ -3,3 +3,5 @@
 pub mod Outputs
 -- what a buffer in front of a sink has passed on
 pub mod Shows
+-- facts on an output over calls on other files
+pub mod Others

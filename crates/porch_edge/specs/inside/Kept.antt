@@ -1,12 +1,12 @@
 -- What a disk in memory keeps of its calls.
-use Rattle.std.specs.Prelude.{◌≡◌, ℕ, ◌^◌, ◌≤◌, ◌++◌, List, [], ◌∷◌, length, Vec}
+use Rattle.std.specs.Prelude.{◌≡◌, ℕ, ◌+◌, ◌^◌, ◌≤◌, ◌++◌, List, [], ◌∷◌, length, min, Vec}
 use Rattle.std.specs.declared.alloc.Global.{Global}
 use Rattle.porch_edge.specs.declared.disk.FileName.{FileName}
 use Rattle.porch_edge.specs.declared.memory_calls.Change.{Change}
 use Rattle.porch_edge.specs.declared.memory_calls.Change.TheVariants.{Nothing, Synced, Write, Cut, Put}
 use Rattle.porch_edge.specs.declared.memory_calls.Call.{Call}
 use Rattle.porch_edge.specs.Files.{Files, file_of, with_file, IsWithin, Torn, Shortened}
-use Rattle.porch_edge.specs.Calls.{change_on, bytes_before}
+use Rattle.porch_edge.specs.Calls.{change_on, bytes_before, end_of_time}
 
 -- one call more is kept, which has left its file so
 pub record Logged (fs gs : Files) (old new : List Call) (file : FileName) (bytes : List ℕ) (change : Change) (moment : ℕ) : Type 0 where
@@ -38,3 +38,12 @@ FileKept file now (call ∷ earlier) =
 pub record Kept (fs : Files) (calls : List Call) : Type 0 where
   pub within : IsWithin fs
   pub each : (file : FileName) → FileKept file (file_of file fs) calls
+
+-- the moment of the last of these calls
+abbrev pub last_moment : List Call → ℕ
+last_moment [] = 0
+last_moment (call ∷ earlier) = call.moment
+
+-- the moment of the next call
+abbrev pub next_moment : ℕ → ℕ
+next_moment now = min (now + 1) end_of_time

@@ -8,8 +8,8 @@ use Rattle.porch_edge.specs.declared.memory_calls.Change.TheVariants.{Nothing, S
 use Rattle.porch_edge.specs.declared.memory_calls.Call.{Call}
 use Rattle.porch_edge.specs.Files.{Files, file_of}
 use Rattle.porch_edge.specs.Disk.{Moment, IsBy, since}
-use Rattle.porch_edge.specs.Calls.{change_on, bytes_before, LeavesBy, FileLeaves, Leaves, LeftAt, last_moment, memory_state}
-use Rattle.porch_edge.specs.inside.Kept.{Did, FileKept, Kept}
+use Rattle.porch_edge.specs.Calls.{change_on, bytes_before, LeavesBy, FileLeaves, Leaves, LeftAt, memory_state}
+use Rattle.porch_edge.specs.inside.Kept.{Did, FileKept, Kept, last_moment}
 
 reads_by : (x : Change) (before now : List ℕ) (past : List ℕ → Type 0) → Did x before now → past (bytes_before x before now) → LeavesBy x now past now
 reads_by Nothing before now past did here = here

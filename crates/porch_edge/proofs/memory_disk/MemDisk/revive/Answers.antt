@@ -1,8 +1,8 @@
 use Rattle.std.proofs.Common.{◌≤◌, ◌^◌, List, ℕ, length, reverse, sym, subst, arith}
 use Rattle.porch_edge.specs.declared.disk.FileName.{FileName}
 use Rattle.porch_edge.specs.Files.{file_of}
-use Rattle.porch_edge.specs.Calls.{FileLeaves, last_moment}
-use Rattle.porch_edge.specs.inside.Kept.{Kept}
+use Rattle.porch_edge.specs.Calls.{FileLeaves}
+use Rattle.porch_edge.specs.inside.Kept.{Kept, last_moment}
 use Rattle.porch_edge.specs.declared.memory_calls.Call.{Call}
 use Rattle.porch_edge.proofs.Picks.{revived_leaves, revived_within}
 use Rattle.porch_edge.proofs.memory_disk.MemDisk.revive.Goals as goal
