@@ -1,5 +1,6 @@
 /* Times the device calls of a commit: two files in turn, each closed, filled and opened by three writes, one cut and three
- * syncs. usage: commit_speed BYTES TIMES. It prints the size, the mean and the best time of a commit in microseconds. */
+ * syncs. Given a size of pieces, it fills by writes of so many bytes. usage: commit_speed BYTES TIMES [PIECE]. It prints the
+ * size, the mean and the best time of a commit in microseconds. */
 #include <fcntl.h>
 #include <stdio.h>
 #include <stdlib.h>
@@ -26,12 +27,13 @@ int main(int argc, char **argv)
 {
     size_t size = argc > 1 ? strtoul(argv[1], 0, 10) : 65536;
     int times = argc > 2 ? atoi(argv[2]) : 10;
-    char *body = malloc(size);
+    size_t piece = argc > 3 ? strtoul(argv[3], 0, 10) : size;
+    char *body = malloc(piece);
     int files[2] = { open("ck.a", O_RDWR | O_CREAT, 0666), open("ck.b", O_RDWR | O_CREAT, 0666) };
     int folder = open(".", O_RDONLY);
     double total = 0, best = 1e18;
     need(body && files[0] >= 0 && files[1] >= 0 && folder >= 0, "open");
-    memset(body, '.', size);
+    memset(body, '.', piece);
     need(!fsync(files[0]) && !fsync(files[1]) && !fsync(folder), "fsync");
     for (int i = 0; i < times; i++) {
         int file = files[i % 2];
@@ -41,7 +43,8 @@ int main(int argc, char **argv)
             need(pwrite(file, "", 1, 0) == 1, "pwrite");
             need(!fsync(file), "fsync");
         }
-        need(pwrite(file, body, size, 1) == (ssize_t)size, "pwrite");
+        for (size_t at = 0; at + piece <= size; at += piece)
+            need(pwrite(file, body, piece, 1 + at) == (ssize_t)piece, "pwrite");
         need(!ftruncate(file, 1 + size), "ftruncate");
         need(!fsync(file), "fsync");
         need(pwrite(file, "P", 1, 0) == 1, "pwrite");

@@ -1,7 +1,6 @@
-//! What no clause says of disks: that calls succeed, and what a stop leaves.
+//! What no clause says of a disk in memory: that calls succeed, and what a stop leaves.
 
-use porch_edge::{DirDisk, Disk, Failed, FileName, MemDisk, Pick, Stop};
-use std::fs;
+use porch_edge::{Disk, Failed, FileName, MemDisk, Pick, Stop};
 use std::test::Fail;
 
 // Six calls on one file, of which some leave places pending.
@@ -62,25 +61,5 @@ fn a_call_fails_without_effect(rt: HostRuntime) -> Result<(), Fail> {
     let mut two = [b'.'; 2];
     assert_eq!(rt; disk.read(FileName::Output, 2, &mut two), Ok(1));
     assert_eq!(rt; two.as_slice(), b"w.".as_slice());
-    Ok(())
-}
-
-#[test]
-fn a_folder_keeps_its_files(rt: HostRuntime) -> Result<(), Fail> {
-    let mut disk = DirDisk::new(rt.clone()?);
-    let mut buf = [b'.'; 8];
-    assert_eq!(rt; disk.len(FileName::CkA), Ok(0));
-    assert_eq!(rt; disk.read(FileName::CkA, 0, &mut buf), Ok(0));
-    assert_eq!(rt; disk.cut(FileName::CkA, 5), Ok(()));
-    assert_eq!(rt; disk.sync(FileName::CkA), Ok(()));
-    assert_eq!(rt; disk.write_at(FileName::CkA, 2, b"abc"), Ok(()));
-    assert_eq!(rt; disk.cut(FileName::CkA, 9), Ok(()));
-    assert_eq!(rt; disk.cut(FileName::CkA, 4), Ok(()));
-    assert_eq!(rt; disk.sync(FileName::CkA), Ok(()));
-    assert_eq!(rt; disk.len(FileName::CkA), Ok(4));
-    assert_eq!(rt; disk.read(FileName::CkA, 1, &mut buf), Ok(3));
-    assert_eq!(rt; buf.as_slice(), b"\0ab.....".as_slice());
-    assert_eq!(rt; disk.write_at(FileName::CkA, 1 << 62, b"!"), Err(Failed));
-    fs::remove_file(&rt, "ck.a")?;
     Ok(())
 }

@@ -7,3 +7,5 @@
 mod adapters;
 #[cfg(test)]
 mod edge;
+#[cfg(test)]
+mod folders;

@@ -6,3 +6,4 @@ pub mod Logged
 pub mod Painted
 pub mod Picks
 pub mod Growth
+mod StaysLost

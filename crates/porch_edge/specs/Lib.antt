@@ -11,6 +11,8 @@ pub mod Standard
 pub mod Files
 -- the name of each in a folder
 pub mod Names
+-- which files of one are lost
+pub mod Folder
 -- what each call on a disk does, and what a crash may leave
 pub mod Disk
 -- which calls of a disk in memory fail

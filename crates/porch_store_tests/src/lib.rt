@@ -1,7 +1,7 @@
-//! The tests of gates, of the two checkpoint files and of the output: crashes and failing calls.
+//! The tests of gates, of the two checkpoint files and of the output: crashes, failing calls, and real folders.
 //!
-//! They stand in a crate of their own, as porch_tests does. `commit`, `start`, `load`, `gate` and `output` are each named
-//! for what they try; `checkpoint` makes files to try it on, `quiet` and `counting` are disks that tell nothing, so that
+//! They stand in a crate of their own, as porch_tests does. `commit`, `start`, `load`, `gate`, `output` and `folders` are each
+//! named for what they try; `checkpoint` makes files to try it on, `quiet` and `counting` are disks that tell nothing, so that
 //! what a call asks of a disk that tells its files needs no proof here.
 #![tactic(auto)]
 
@@ -11,6 +11,8 @@ mod checkpoint;
 mod commit;
 #[cfg(test)]
 mod counting;
+#[cfg(test)]
+mod folders;
 #[cfg(test)]
 mod gate;
 #[cfg(test)]

@@ -1,5 +1,5 @@
 use Rattle.std.proofs.Common.{length, ◌-◌, ◌≡◌, ◌≤◌}
-use Rattle.porch_edge.proofs.folder.fill.Given as goal
+use Rattle.porch_edge.proofs.folder.files.fill.Given as goal
 
 abbrev pub invariant-loop-filled : goal.invariant-loop-filled
 invariant-loop-filled l = record { within : l.filled ≤ length l.buf; whole : length l.buf ≡ length l.initial.buf }
