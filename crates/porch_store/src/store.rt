@@ -243,6 +243,13 @@ impl Store {
         self.number
     }
 
+    /// Whether it may begin a checkpoint: none was begun and not finished, and no call has failed.
+    pub fn is_idle(&self) -> bool
+        ensures { IsTrue result ↔ IsIdle self.now }
+    {
+        matches!(self.stage, Stage::Idle)
+    }
+
     /// Whether a checkpoint was begun and not finished.
     pub fn is_filling(&self) -> bool
         ensures { IsTrue result ↔ IsFilling self.now }

@@ -94,6 +94,7 @@ fn is_committed(quiet: &mut Quiet) -> bool {
         Ok((is_filling, ack, store)) => {
             is_filling
                 && ack == Ack { file, number: 1 }
+                && store.is_idle()
                 && store.newest() == Newest::One { file }
                 && quiet.disk.file(file) == image(1).as_slice()
         }
