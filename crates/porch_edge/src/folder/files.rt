@@ -4,6 +4,7 @@ ghost use Rattle.std.specs.Prelude.{◌≤◌, ◌+◌, ◌^◌, IfOk, length};
 use crate::FileName;
 use std::fs::{self, File, Metadata, OpenOptions};
 use std::io;
+use std::io::{Seek, SeekFrom};
 use std::os::unix::fs::{FileExt, MetadataExt};
 use std::rt::Runtime;
 
@@ -29,6 +30,8 @@ struct Kept {
     there: File,
     device: u64,
     inode: u64,
+    // When a name in the folder had changed last, as its name was looked at.
+    looked_at: Option<(i64, i64)>,
 }
 
 // Whether the names of the files are on the device.
@@ -60,7 +63,7 @@ impl<R: Runtime<File = File>> Folder<R> {
     pub fn length(&mut self, file: FileName) -> io::Result<u64> {
         self.find(file)?;
         match self.kept(file) {
-            Some(kept) => Ok(kept.there.metadata()?.len()),
+            Some(kept) => length_of(&kept.there),
             None => Ok(0),
         }
     }
@@ -95,7 +98,7 @@ impl<R: Runtime<File = File>> Folder<R> {
         self.lock()?;
         self.find(file)?;
         match self.kept(file) {
-            Some(kept) if kept.there.metadata()?.len() > len => kept.there.set_len(len),
+            Some(kept) if length_of(&kept.there)? > len => kept.there.set_len(len),
             _ => Ok(()),
         }
     }
@@ -107,8 +110,8 @@ impl<R: Runtime<File = File>> Folder<R> {
         self.find(file)?;
         if let Some(kept) = self.kept(file) {
             kept.there.sync_all()?;
-            self.check_name(file, kept)?;
         }
+        self.check_name(file)?;
         self.sync_names()
     }
 
@@ -144,13 +147,40 @@ impl<R: Runtime<File = File>> Folder<R> {
         }
     }
 
-    // Fails where the name no longer leads to the open file: one that was removed or replaced lasts for nobody.
-    fn check_name(&self, file: FileName, kept: &Kept) -> io::Result<()> {
+    // Fails where the name no longer leads to the open file: one that was removed or replaced lasts for nobody. It looks only
+    // where a name in the folder has changed since it looked last: who asks for a file's times makes its next sync dearer.
+    fn check_name(&mut self, file: FileName) -> io::Result<()> {
+        let changed = self.last_change()?;
+        self.look_at_name(file, changed)?;
+        if let Some(kept) = self.place(file) {
+            kept.looked_at = changed;
+        }
+        Ok(())
+    }
+
+    fn look_at_name(&self, file: FileName, changed: Option<(i64, i64)>) -> io::Result<()> {
+        let Some(kept) = self.kept(file) else {
+            return Ok(());
+        };
+        if kept.looked_at == changed {
+            return Ok(());
+        }
         let named = fs::metadata(&self.rt, file.name())?;
         if named.ino() == kept.inode && named.dev() == kept.device {
             Ok(())
         } else {
             Err(io::Error::from(io::ErrorKind::NotFound))
+        }
+    }
+
+    // When a name in the folder has changed last, in seconds and nanoseconds.
+    fn last_change(&self) -> io::Result<Option<(i64, i64)>> {
+        match &self.locked {
+            Some(folder) => {
+                let found = folder.metadata()?;
+                Ok(Some((found.mtime(), found.mtime_nsec())))
+            }
+            None => Ok(None),
         }
     }
 
@@ -205,21 +235,31 @@ impl<R: Runtime<File = File>> Folder<R> {
         }
     }
 
-    fn keep(&mut self, file: FileName, there: File, found: &Metadata) {
-        let place = match file {
+    fn place(&mut self, file: FileName) -> &mut Option<Kept> {
+        match file {
             FileName::Program => &mut self.program,
             FileName::Output => &mut self.output,
             FileName::CkA => &mut self.ck_a,
             FileName::CkB => &mut self.ck_b,
             FileName::Layouts => &mut self.layouts,
             FileName::Input => &mut self.input,
-        };
-        *place = Some(Kept {
+        }
+    }
+
+    fn keep(&mut self, file: FileName, there: File, found: &Metadata) {
+        *self.place(file) = Some(Kept {
             there,
             device: found.dev(),
             inode: found.ino(),
+            looked_at: None,
         });
     }
+}
+
+// The place of the file's end. It asks for no times, as `metadata` does.
+fn length_of(there: &File) -> io::Result<u64> {
+    let mut end = there;
+    end.seek(SeekFrom::End(0))
 }
 
 // Reads until the buffer is full or the file is at its end.
