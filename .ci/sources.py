@@ -253,12 +253,12 @@ def lookup(path, name):
 
 
 def declared(crate, parts, name):
-    """A type of a source, by a path as declared.module.Type.TheVariants."""
+    """A type or a constant of a source, by a path as declared.module.Type.TheVariants or declared.module.TheConstants."""
     files = source_files(crate)
     for size in range(len(parts), 0, -1):
         module = ".".join(parts[:size])
         if module in files:
-            kind = parts[size] if size < len(parts) else name
+            kind = parts[size] if size < len(parts) and parts[size] != "TheConstants" else name
             found = files[module].types.get(kind)
             if found:
                 return found

@@ -98,7 +98,7 @@ fn commit_once<R: Runtime<File = File>>(
     disk: &mut DirDisk<R>,
     body: &[u8],
 ) -> Result<(), Failed> {
-    if body.len() < 127 || store.is_spent() || matches!(store.newest(), Newest::Tie) {
+    if body.len() < 127 || !store.is_idle() || matches!(store.newest(), Newest::Tie) {
         return Err(Failed);
     }
     let number = BigEndian::read_u64(&body[15..]);

@@ -1,5 +1,5 @@
 -- What torn writes leave of a gate.
-use Rattle.std.proofs.Common.{◌≡◌, ◌≢◌, ◌⊎◌, inl, inr, ℕ, zero, suc, ◌+◌, ◌-◌, ◌<◌, ◌≤◌, List, [], ◌∷◌, ◌++◌, length, take, drop, get_or, min, refl, sym, ◌∙◌, ap, subst, arith, length-append}
+use Rattle.std.proofs.Common.{◌≡◌, ◌≢◌, ◌⊎◌, inl, inr, ℕ, zero, suc, ◌+◌, ◌-◌, ◌<◌, ◌≤◌, List, [], ◌∷◌, ◌++◌, length, take, drop, get_or, min, refl, sym, ◌∙◌, ap, arith, length-append}
 use Rattle.std.proofs.lemmas.Bool.{cases_eq}
 use Rattle.std.proofs.lemmas.List.{take_at}
 use Rattle.porch_edge.specs.Files.{written, padded_to, Shortened, Marred}
@@ -46,19 +46,26 @@ module _ (gate : Gate) where
   not_yet [] = inr (short_closed [] (omega arith))
   not_yet (x ∷ old) = fronted x old old refl
 
--- filling leaves the first byte
+-- writing behind the first byte leaves it
 abbrev pub Filling : List ℕ → List ℕ → Type 0
 Filling old x = (0 < length x) × SameFirst old x
 
-pub filling_write : (now old y bytes : List ℕ) → 0 < length now → 0 < length old → TornWrite now 1 bytes old y → Filling old y
-filling_write now old y bytes long some torn =
-    let one : min 1 (length now) ≡ 1 = omega arith in
-    (omega (arith, torn.no_shorter), subst (λ n. take n y ≡ take n old) one torn.before)
+-- a file with the first byte of one that has some has some
+pub some_first : (old x : List ℕ) → 0 < length old → SameFirst old x → 0 < length x
+some_first [] x some same = absurd (omega arith)
+some_first (a ∷ old) [] some same = absurd (cc same)
+some_first (a ∷ old) (b ∷ x) some same = omega arith
 
 first_of : (n : ℕ) (x : List ℕ) → 0 < n → take 1 (take n x) ≡ take 1 x
 first_of zero x some = absurd (omega arith)
 first_of (suc n) [] some = refl
 first_of (suc n) (b ∷ x) some = refl
+
+pub filling_write : (at : ℕ) (bytes now old x y : List ℕ) → 0 < at → 0 < length now → Filling old x → TornWrite now at bytes x y → Filling old y
+filling_write at bytes now old x y more long filling torn =
+    let n = min at (length now) in
+    let some : 0 < n = omega arith in
+    (omega (arith, filling.0, torn.no_shorter), sym (first_of n y some) ∙ ap (λ (l : List ℕ). take 1 l) torn.before ∙ first_of n x some ∙ filling.1)
 
 pub filling_cut : (old x y : List ℕ) (n : ℕ) → 0 < n → Filling old x → Shortened n x y → Filling old y
 filling_cut old x y n more filling short =

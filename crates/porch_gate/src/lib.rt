@@ -6,5 +6,5 @@
 mod calls;
 mod gate;
 
-pub use calls::{close, fill, is_open, open_gate};
+pub use calls::{close, fill, is_open, open_gate, seal, write_behind};
 pub use gate::Gate;

@@ -47,14 +47,53 @@ pub fn load_file<D: Disk>(alloc: Global, disk: &mut D, file: FileName) -> Result
         → Rose (D.faults disk.old) (D.faults disk.new) }
 {
     let len = disk.len(file)?;
-    let mut bytes = vec![in alloc; 0; len as usize]?;
+    load_some(alloc, disk, file, len)
+}
+
+/// The first bytes of a file, at most so many: what is behind them isn't read. `Failed` only where the disk failed.
+pub fn load_front<D: Disk>(
+    alloc: Global,
+    disk: &mut D,
+    file: FileName,
+    most: u64,
+) -> Result<Vec<u8>, LoadFault>
+    ensures bytes { IfOk result
+        (λ bytes. WhereTold (D.state disk.old) (λ fs. bytes.items ≡ take most (file_of file fs))) }
+    ensures within { IfOk result (λ bytes. length bytes.items ≤ most) }
+    ensures looks { OnlyLooks (D.state disk.old) (D.state disk.new) }
+    ensures later { D.faults disk.old ≤ D.faults disk.new }
+    ensures failed { IsErrOf result LoadFault.Failed
+        → Rose (D.faults disk.old) (D.faults disk.new) }
+{
+    let len = disk.len(file)?;
+    let count = most.min(len);
+    load_some(alloc, disk, file, count)
+}
+
+// So many bytes from the beginning of a file that has as many, or up to its end where that comes first.
+fn load_some<D: Disk>(
+    alloc: Global,
+    disk: &mut D,
+    file: FileName,
+    count: u64,
+) -> Result<Vec<u8>, LoadFault>
+    requires { WhereTold (D.state disk.old) (λ fs. count ≤ length (file_of file fs)) }
+    ensures bytes { IfOk result
+        (λ bytes. WhereTold (D.state disk.old) (λ fs. bytes.items ≡ take count (file_of file fs))) }
+    ensures within { IfOk result (λ bytes. length bytes.items ≤ count) }
+    ensures looks { OnlyLooks (D.state disk.old) (D.state disk.new) }
+    ensures later { D.faults disk.old ≤ D.faults disk.new }
+    ensures failed { IsErrOf result LoadFault.Failed
+        → Rose (D.faults disk.old) (D.faults disk.new) }
+{
+    let mut bytes = vec![in alloc; 0; count as usize]?;
     let mut filled = 0;
     while filled < bytes.len() {
-        let count = read_on(disk, file, filled, &mut bytes)?;
-        if count == 0 {
+        let read = read_on(disk, file, filled, &mut bytes)?;
+        if read == 0 {
             break;
         }
-        filled += count;
+        filled += read;
     }
     bytes.truncate(filled);
     Ok(bytes)
@@ -71,15 +110,14 @@ fn read_on<D: Disk>(
     ensures within { IfOk result (λ count. filled + count ≤ length bytes.new) }
     ensures read { IfOk result
         (λ count. WhereTold (D.state disk.old)
-        (λ fs. length bytes.old ≡ length (file_of file fs)
+        (λ fs. length bytes.old ≤ length (file_of file fs)
         → take filled bytes.old ≡ take filled (file_of file fs)
-        → bytes.new ≡ file_of file fs)) }
+        → bytes.new ≡ take (length bytes.old) (file_of file fs))) }
     ensures all { IfOk result
         (λ count. WhereTold (D.state disk.old)
-        (λ fs. length bytes.old ≡ length (file_of file fs)
+        (λ fs. length bytes.old ≤ length (file_of file fs)
         → filled + count ≡ length bytes.old)) }
-    ensures looks { (start : D) → OnlyLooks (D.state start) (D.state disk.old)
-        → OnlyLooks (D.state start) (D.state disk.new) }
+    ensures looks { OnlyLooks (D.state disk.old) (D.state disk.new) }
     ensures cause { HasCause (D.faults disk.old) (D.faults disk.new) result }
 {
     disk.read(file, filled as u64, &mut bytes[filled..])

@@ -9,17 +9,23 @@ use byteorder::{BigEndian, ByteOrder};
 use porch_edge::{Disk, Failed, FileName};
 use porch_gate::{Gate, is_open};
 
+/// The byte 0 of an open checkpoint file: the letter `P`.
+pub const CHECKPOINT_LETTER: u8 = b'P';
+
+/// The least number of bytes of an open checkpoint file.
+pub const CHECKPOINT_LEAST: u64 = 128;
+
 // Where an open file has its number, as a big-endian u64.
 const PLACE: u64 = 16;
 
-/// The gate of a checkpoint file: the letter `P`, and at least 128 bytes.
-pub(crate) fn checkpoint() -> Gate
-    ensures letter { result.letter ≡ 80 }
-    ensures least { result.least ≡ 128 }
+/// The gate of a checkpoint file.
+pub fn checkpoint() -> Gate
+    ensures letter { result.letter ≡ CHECKPOINT_LETTER }
+    ensures least { result.least ≡ CHECKPOINT_LEAST }
 {
     Gate {
-        letter: b'P',
-        least: 128,
+        letter: CHECKPOINT_LETTER,
+        least: CHECKPOINT_LEAST,
     }
 }
 

@@ -2,7 +2,8 @@
 //! was committed and put. Each test has a folder of its own, and compares after it has taken that away, so that one that
 //! fails leaves nothing behind.
 
-use crate::store::{commit_to, image};
+use crate::checkpoint::image;
+use crate::commit::commit_to;
 use porch_edge::{DirDisk, Disk, Failed, FileName};
 use porch_output::Output;
 use porch_store::{Ack, load_file};

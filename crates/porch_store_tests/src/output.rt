@@ -1,62 +1,13 @@
 //! What no clause says of outputs: that calls succeed, how many device calls they cost, what a crash at each call leaves.
 
 ghost use Rattle.std.specs.Prelude.{OnOk};
-ghost use Rattle.porch_edge.specs.Disk.{untold};
 ghost use Rattle.porch_output.specs.Outputs.{IsSpent, IsReady};
 
+use crate::counting::Counting;
 use porch_edge::{Disk, Failed, FileName, MemDisk, MemSink, Pick, Stop};
 use porch_output::{Output, Shown};
 use std::alloc::{AllocError, Global};
 use std::test::Fail;
-
-// A device that keeps nothing and counts.
-#[derive(Drop)]
-struct Counting {
-    writes: u64,
-    syncs: u64,
-}
-
-impl Disk for Counting {
-    ghost state = { λ _. untold };
-
-    // It may have failed as often as can be counted.
-    ghost faults = { λ _. 18446744073709551615 };
-
-    fn len(&mut self, _: FileName) -> Result<u64, Failed> {
-        Ok(0)
-    }
-
-    fn read(&mut self, _: FileName, _: u64, _: &mut [u8]) -> Result<usize, Failed> {
-        Ok(0)
-    }
-
-    fn write_at(&mut self, _: FileName, at: u64, bytes: &[u8]) -> Result<(), Failed> {
-        if at > 1 << 61 || bytes.len() > 1 << 61 {
-            return Err(Failed);
-        }
-        self.writes = self.writes.saturating_add(1);
-        Ok(())
-    }
-
-    fn cut(&mut self, _: FileName, len: u64) -> Result<(), Failed> {
-        if len > 1 << 61 { Err(Failed) } else { Ok(()) }
-    }
-
-    fn sync(&mut self, _: FileName) -> Result<(), Failed> {
-        self.syncs = self.syncs.saturating_add(1);
-        Ok(())
-    }
-
-    ghost reads_leave = { λ _. tt };
-
-    ghost counts_now = { λ _. tt };
-
-    ghost only_now = { λ _. tt };
-
-    ghost up_to_now = { λ _. tt };
-
-    ghost is_within = { λ _. tt };
-}
 
 // Puts a piece some times.
 fn put_often<D: Disk>(
@@ -78,10 +29,7 @@ fn put_often<D: Disk>(
 
 #[test]
 fn a_million_bytes_cost_few_writes(rt: HostRuntime) -> Result<(), Fail> {
-    let mut disk = Counting {
-        writes: 0,
-        syncs: 0,
-    };
+    let mut disk = Counting::new();
     let mut output = Output::attach(&mut disk)?;
     put_often(&mut output, &mut disk, b"x", 1_000_000)?;
     assert_eq!(rt; (output.len(), disk.writes), (1_000_000, 244));
@@ -92,6 +40,23 @@ fn a_million_bytes_cost_few_writes(rt: HostRuntime) -> Result<(), Fail> {
     );
     output.flush(&mut disk)?;
     assert_eq!(rt; (disk.writes, disk.syncs), (245, 3));
+    Ok(())
+}
+
+// Puts one piece of 10,000 bytes, and says the length before the flush.
+fn put_long(disk: &mut MemDisk) -> Result<u64, Failed> {
+    let mut output = Output::attach(disk)?;
+    output.put(disk, &[b'z'; 10_000])?;
+    let len = output.len();
+    output.flush(disk)?;
+    Ok(len)
+}
+
+#[test]
+fn a_long_piece_is_split(rt: HostRuntime) -> Result<(), Fail> {
+    let mut disk = MemDisk::new(rt.alloc());
+    assert_eq!(rt; put_long(&mut disk), Ok(10_000));
+    assert_eq!(rt; disk.file(FileName::Output), [b'z'; 10_000].as_slice());
     Ok(())
 }
 
@@ -114,6 +79,29 @@ fn disk_of_6000(alloc: Global) -> Result<MemDisk, AllocError> {
     Ok(disk)
 }
 
+// Whether a stop there leaves the first 5,000 bytes, and all where the calls were made or what is pending is left.
+fn leaves_beginning(alloc: Global, stop: Stop, whole: &[u8; 9200]) -> Result<bool, AllocError> {
+    let mut disk = disk_of_6000(alloc)?;
+    disk.stop_at(stop);
+    let done = seven_calls(&mut disk);
+    let disk = disk.revive();
+    let left = disk.file(FileName::Output);
+    let is_made = stop.call == 8;
+    let is_whole = is_made || stop.call >= 6 && matches!(stop.pick, Pick::New);
+    let wanted = if is_made { Ok(9200) } else { Err(Failed) };
+    let is_left = left.starts_with(&whole[..5000]) && (left == whole.as_slice() || !is_whole);
+    Ok(done == wanted && is_left)
+}
+
+// Whether a call that fails there leaves them.
+fn keeps_beginning(alloc: Global, call: u64, whole: &[u8; 9200]) -> Result<bool, AllocError> {
+    let mut disk = disk_of_6000(alloc)?;
+    disk.fail_at(call);
+    let is_made = seven_calls(&mut disk).is_ok();
+    let is_left = disk.file(FileName::Output).starts_with(&whole[..5000]);
+    Ok(is_made == (call == 8) && is_left)
+}
+
 #[test]
 fn a_crash_leaves_the_beginning(rt: HostRuntime) -> Result<(), Fail> {
     let alloc = rt.alloc();
@@ -122,24 +110,9 @@ fn a_crash_leaves_the_beginning(rt: HostRuntime) -> Result<(), Fail> {
     whole[9000..].copy_from_slice(&[b'2'; 200]);
     for call in 1..=8 {
         for pick in [Pick::Old, Pick::New, Pick::Fill(0), Pick::Fill(255)] {
-            let mut disk = disk_of_6000(alloc)?;
-            disk.stop_at(Stop { call, pick });
-            let done = seven_calls(&mut disk);
-            assert_eq!(rt; done, if call == 8 { Ok(9200) } else { Err(Failed) });
-            let disk = disk.revive();
-            let left = disk.file(FileName::Output);
-            assert_eq!(rt; left.starts_with(&whole[..5000]), true);
-            if call == 8 || call >= 6 && matches!(pick, Pick::New) {
-                assert_eq!(rt; left, whole.as_slice());
-            }
+            assert_eq!(rt; leaves_beginning(alloc, Stop { call, pick }, &whole)?, true);
         }
-        let mut disk = disk_of_6000(alloc)?;
-        disk.fail_at(call);
-        assert_eq!(rt; seven_calls(&mut disk).is_ok(), call == 8);
-        assert_eq!(rt;
-            disk.file(FileName::Output).starts_with(&whole[..5000]),
-            true
-        );
+        assert_eq!(rt; keeps_beginning(alloc, call, &whole)?, true);
     }
     Ok(())
 }

@@ -1,12 +1,12 @@
 use Rattle.std.proofs.Common.{◌≡◌, ◌≤◌, ◌-◌, length, take}
 use Rattle.porch_edge.specs.Disk.{WhereTold, OnlyLooks}
 use Rattle.porch_edge.specs.Files.{file_of}
-use Rattle.porch_store.proofs.load.load_file.Given as goal
+use Rattle.porch_store.proofs.load.load_some.Given as goal
 
 abbrev pub invariant-loop-filled : goal.invariant-loop-filled
 invariant-loop-filled g l = record {
   within : l.filled ≤ length l.bytes.items;
-  sized : WhereTold (g.D.Disk.state l.fn.disk) (λ fs. length l.bytes.items ≡ length (file_of l.file fs));
+  sized : length l.bytes.items ≡ l.count;
   done : WhereTold (g.D.Disk.state l.fn.disk) (λ fs. take l.filled l.bytes.items ≡ take l.filled (file_of l.file fs));
   looks : OnlyLooks (g.D.Disk.state l.fn.disk) (g.D.Disk.state l.disk);
   later : g.D.Disk.faults l.fn.disk ≤ g.D.Disk.faults l.disk;
