@@ -2,5 +2,7 @@
 pub mod Words
 -- the text of a flat program
 pub mod Text
+-- the arguments that code has in hand
+pub mod Arguments
 -- what only private contracts cite
 pub mod inside

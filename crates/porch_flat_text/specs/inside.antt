@@ -1,1 +1,4 @@
 pub mod FoundWords
+pub mod Numbers
+pub mod Cuts
+pub mod Commands

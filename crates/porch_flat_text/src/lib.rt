@@ -1,6 +1,12 @@
 //! The text of flat programs: its one spelling, printed and read.
 #![tactic(auto)]
 
+mod command;
+mod cut;
+mod line;
+mod number;
+mod put;
 mod word;
 
+pub use put::Argument;
 pub use word::{Word, text_of_word};
