@@ -2,3 +2,4 @@ pub mod FoundWords
 pub mod Numbers
 pub mod Cuts
 pub mod Commands
+pub mod Drafts

@@ -3,6 +3,7 @@
 
 mod command;
 mod cut;
+mod draft;
 mod line;
 mod number;
 mod put;

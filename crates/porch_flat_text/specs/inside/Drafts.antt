@@ -3,6 +3,7 @@ use Rattle.std.specs.Prelude.{◌≡◌, ℕ, ℤ, pos, ◌+◌, ◌^◌, ◌<�
 use Rattle.std.specs.Option.{is_none}
 use Rattle.std.specs.Str.{bytes_eq}
 use Rattle.porch_types.specs.Adding.{add_fault}
+use Rattle.porch_types.specs.declared.types.TypeFault.{TypeFault}
 use Rattle.porch_types.specs.declared.shapes.Ty.{Ty}
 use Rattle.porch_types.specs.declared.shapes.Ty.TheVariants.{Pointer, Array, Struct}
 use Rattle.porch_types.specs.Leaves.{kind_types}
@@ -63,6 +64,11 @@ type_from word.Array inner = Array (number_in (first (rest inner))) (number_in (
 type_from word.Struct inner = Struct (each_in number_in (length (rest inner)) (rest inner))
 type_from w inner = Pointer (number_in (first (rest inner)))
 
+-- what adding a type leaves
+abbrev pub Added : Option TypeFault → Bool → List Ty → List Ty → Type 0
+Added None added types new = (added ≡ true) × (new ≡ types)
+Added (Some fault) added types new = added ≡ false
+
 abbrev pub with_type : Draft → Word → List ℕ → List ℕ → Option Draft
 with_type d w inner line =
     let ty = type_from w inner in
@@ -95,7 +101,7 @@ abbrev pub with_function : Draft → List ℕ → List ℕ → Option Draft
 with_function d inner line =
     let function = function_from inner in
     taken_if (nat_lt (length d.functions) (2 ^ 32) && is_function_name function.name) line (line_text (function_line (length d.functions) function))
-    (record d { phase = phase.Variables; globals = globals_of d.phase d.globals d.global; function = function })
+    (record d { phase = phase.Variables; globals = globals_of d.phase d.globals d.global; global = empty_global; function = function })
 
 abbrev pub with_variable : Draft → List ℕ → List ℕ → Option Draft
 with_variable d inner line =
@@ -123,7 +129,7 @@ with_command d w inner line = with_some_command d (command_from w inner) line
 abbrev pub with_end : Draft → List ℕ → Option Draft
 with_end d line =
     taken_if true line (row_text (row word.End []))
-    (record d { phase = phase.Functions; functions = d.functions ++ d.function ∷ [] })
+    (record d { phase = phase.Functions; functions = d.functions ++ d.function ∷ []; function = empty_function })
 
 -- which lines may stand where
 abbrev pub is_type_word : Word → Bool

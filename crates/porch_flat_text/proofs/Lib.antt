@@ -1,0 +1,4 @@
+-- lists of arguments, one at a time
+pub mod Lists
+-- what a line makes of a program
+pub mod Steps
