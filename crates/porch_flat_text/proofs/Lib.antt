@@ -2,3 +2,5 @@
 pub mod Lists
 -- what a line makes of a program
 pub mod Steps
+-- lines of a text
+pub mod Lines

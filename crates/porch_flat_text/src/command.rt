@@ -184,7 +184,6 @@ fn fixed_command(word: Word, a: &[u8], b: &[u8], c: &[u8]) -> Option<Command>
 }
 
 /// All operands that are written here.
-#[tactic(auto, using(crate::proofs::Lists::each_step, crate::proofs::Lists::each_at_end, crate::proofs::Lists::each_out))]
 fn operands_in(alloc: Global, inner: &[u8]) -> Result<Items<Operand>, AllocError>
     ensures { IfOk result (λ operands. operands ≡ each_in operand_in (length inner.now) inner.now) }
 {
@@ -202,7 +201,6 @@ fn operands_in(alloc: Global, inner: &[u8]) -> Result<Items<Operand>, AllocError
 }
 
 /// All variables that are written here.
-#[tactic(auto, using(crate::proofs::Lists::each_step, crate::proofs::Lists::each_at_end, crate::proofs::Lists::each_out))]
 fn variables_in(alloc: Global, inner: &[u8]) -> Result<Items<u32>, AllocError>
     ensures { IfOk result (λ variables. variables ≡ each_in variable_in (length inner.now) inner.now) }
 {

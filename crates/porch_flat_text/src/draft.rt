@@ -1,19 +1,19 @@
 //! A program as far as its text was read, and what a further line makes of it.
 
-ghost use Rattle.std.specs.Prelude.{◌≡◌, ◌<◌, ◌≤◌, ◌^◌, ◌++◌, ◌∷◌, ◌&&◌, ◌||◌, [], length, OnOk, IfOk};
+ghost use Rattle.std.specs.Prelude.{◌≡◌, ◌<◌, ◌≤◌, ◌^◌, ◌++◌, ◌∷◌, ◌&&◌, ◌||◌, [], length, OnOk, IfOk, IsTrue};
 ghost use Rattle.std.specs.List.{list_all, list_any};
 ghost use Rattle.std.specs.Str.{bytes_eq};
 ghost use Rattle.porch_types.specs.Leaves.{kind_types};
 ghost use Rattle.porch_flat.specs.whole.Flats.{is_letter, is_digit, is_name, is_keyword, is_function_name, is_said};
 ghost use Rattle.porch_flat.specs.whole.Lines.{function_line};
 ghost use Rattle.porch_flat_text.specs.Text.{row, row_text, type_row, init_row, line_text, number};
-ghost use Rattle.porch_flat_text.specs.inside.Drafts.{empty_draft, empty_global, empty_function, globals_of, Added, Taken, type_from, init_from, function_from, with_type, with_global, with_init, with_function, with_variable, with_begin, with_some_command, with_command, with_end, next, flat_of};
+ghost use Rattle.porch_flat_text.specs.inside.Drafts.{empty_draft, empty_global, empty_function, globals_of, Added, Taken, type_from, init_from, function_from, with_type, with_global, with_init, with_function, with_variable, with_begin, with_some_command, with_command, with_end, is_type_word, is_init_word, is_word, next_in, next_form, next_at, next, is_whole, flat_of};
 ghost use Rattle.porch_flat_text.specs.inside.Cuts.{each_in};
 ghost use Rattle.porch_flat_text.specs.inside.Numbers.{number_in};
 ghost use Rattle.porch_types.specs.Adding.{add_fault};
 
 use crate::command::{command_in, put_command};
-use crate::cut::{next_argument, parts_of};
+use crate::cut::{lines_to_end, next_argument, parts_of};
 use crate::line::{put_head, put_init, put_type};
 use crate::number::{constant_in, number_in, result_type_in};
 use crate::put::{Argument, number, put_none, put_two};
@@ -52,6 +52,10 @@ pub(crate) struct Draft {
     functions: Items<Function>,
     function: Function,
 }
+
+/// The two lines that every text begins with.
+pub(crate) const FIRST_HEAD: &str = "/* porch flat text, version 1 */\n";
+pub(crate) const SECOND_HEAD: &str = "#include \"porch.h\"\n";
 
 /// The most types of a program.
 const MOST_TYPES: usize = 2_147_483_648;
@@ -118,7 +122,6 @@ fn is_function_name(name: &[u8]) -> bool
     is_name(name) && !is_keyword(name)
 }
 
-#[tactic(auto, using(crate::proofs::Lists::each_step, crate::proofs::Lists::each_at_end, crate::proofs::Lists::each_out))]
 fn numbers_in(alloc: Global, inner: &[u8]) -> Result<Vec<u32>, AllocError>
     ensures { IfOk result (λ numbers. numbers.items ≡ each_in number_in (length inner.now) inner.now) }
 {
@@ -427,4 +430,257 @@ fn take_end(
     draft.functions.push(function)?;
     draft.phase = Phase::Functions;
     Ok(scratch.as_slice() == line)
+}
+
+fn is_type_word(word: Word) -> bool
+    ensures { result ≡ is_type_word word }
+{
+    matches!(word, Word::Pointer | Word::Array | Word::Struct)
+}
+
+fn is_init_word(word: Word) -> bool
+    ensures { result ≡ is_init_word word }
+{
+    matches!(word, Word::Init | Word::InitA)
+}
+
+fn is_global_word(word: Word) -> bool
+    ensures { result ≡ is_word word Word.Global }
+{
+    matches!(word, Word::Global)
+}
+
+fn is_function_word(word: Word) -> bool
+    ensures { result ≡ is_word word Word.Function }
+{
+    matches!(word, Word::Function)
+}
+
+fn is_variable_word(word: Word) -> bool
+    ensures { result ≡ is_word word Word.Var }
+{
+    matches!(word, Word::Var)
+}
+
+fn is_begin_word(word: Word) -> bool
+    ensures { result ≡ is_word word Word.Begin }
+{
+    matches!(word, Word::Begin)
+}
+
+fn is_end_word(word: Word) -> bool
+    ensures { result ≡ is_word word Word.End }
+{
+    matches!(word, Word::End)
+}
+
+fn take_in_types(
+    alloc: Global,
+    draft: &mut Draft,
+    scratch: &mut Vec<u8>,
+    word: Word,
+    inner: &[u8],
+    line: &[u8],
+) -> Result<bool, AllocError>
+    ensures { IfOk result
+        (λ taken. Taken (next_in draft.old Phase.Types word inner.now line.now) taken draft.new) }
+{
+    if is_type_word(word) {
+        take_type(alloc, draft, scratch, word, inner, line)
+    } else if is_global_word(word) {
+        take_global(alloc, draft, scratch, inner, line)
+    } else if is_function_word(word) {
+        take_function(alloc, draft, scratch, inner, line)
+    } else {
+        Ok(false)
+    }
+}
+
+fn take_in_globals(
+    alloc: Global,
+    draft: &mut Draft,
+    scratch: &mut Vec<u8>,
+    word: Word,
+    inner: &[u8],
+    line: &[u8],
+) -> Result<bool, AllocError>
+    ensures { IfOk result
+        (λ taken. Taken (next_in draft.old Phase.Globals word inner.now line.now) taken draft.new) }
+{
+    if is_init_word(word) {
+        take_init(draft, scratch, word, inner, line)
+    } else if is_global_word(word) {
+        take_global(alloc, draft, scratch, inner, line)
+    } else if is_function_word(word) {
+        take_function(alloc, draft, scratch, inner, line)
+    } else {
+        Ok(false)
+    }
+}
+
+fn take_in_functions(
+    alloc: Global,
+    draft: &mut Draft,
+    scratch: &mut Vec<u8>,
+    word: Word,
+    inner: &[u8],
+    line: &[u8],
+) -> Result<bool, AllocError>
+    ensures { IfOk result
+        (λ taken. Taken (next_in draft.old Phase.Functions word inner.now line.now) taken draft.new) }
+{
+    if is_function_word(word) {
+        take_function(alloc, draft, scratch, inner, line)
+    } else {
+        Ok(false)
+    }
+}
+
+fn take_in_variables(
+    alloc: Global,
+    draft: &mut Draft,
+    scratch: &mut Vec<u8>,
+    word: Word,
+    inner: &[u8],
+    line: &[u8],
+    room: usize,
+) -> Result<bool, AllocError>
+    ensures { IfOk result
+        (λ taken. Taken (next_in draft.old Phase.Variables word inner.now line.now) taken draft.new) }
+{
+    if is_variable_word(word) {
+        take_variable(draft, scratch, inner, line)
+    } else if is_begin_word(word) {
+        take_begin(alloc, draft, scratch, line, room)
+    } else {
+        Ok(false)
+    }
+}
+
+fn take_in_commands(
+    alloc: Global,
+    draft: &mut Draft,
+    scratch: &mut Vec<u8>,
+    word: Word,
+    inner: &[u8],
+    line: &[u8],
+) -> Result<bool, AllocError>
+    ensures { IfOk result
+        (λ taken. Taken (next_in draft.old Phase.Commands word inner.now line.now) taken draft.new) }
+{
+    if is_end_word(word) {
+        take_end(alloc, draft, scratch, line)
+    } else {
+        take_command(alloc, draft, scratch, word, inner, line)
+    }
+}
+
+fn take_form(
+    alloc: Global,
+    draft: &mut Draft,
+    scratch: &mut Vec<u8>,
+    word: Word,
+    inner: &[u8],
+    line: &[u8],
+    behind: &[u8],
+) -> Result<bool, AllocError>
+    ensures { IfOk result (λ taken.
+        Taken (next_in draft.old draft.old.phase word inner.now line.now) taken draft.new) }
+{
+    match draft.phase {
+        Phase::Start => Ok(false),
+        Phase::Second => Ok(false),
+        Phase::Types => take_in_types(alloc, draft, scratch, word, inner, line),
+        Phase::Globals => take_in_globals(alloc, draft, scratch, word, inner, line),
+        Phase::Functions => take_in_functions(alloc, draft, scratch, word, inner, line),
+        Phase::Variables => {
+            take_in_variables(alloc, draft, scratch, word, inner, line, lines_to_end(behind))
+        }
+        Phase::Commands => take_in_commands(alloc, draft, scratch, word, inner, line),
+    }
+}
+
+fn take_line_of_form(
+    alloc: Global,
+    draft: &mut Draft,
+    scratch: &mut Vec<u8>,
+    line: &[u8],
+    behind: &[u8],
+) -> Result<bool, AllocError>
+    ensures { IfOk result (λ taken. Taken (next_form draft.old line.now) taken draft.new) }
+{
+    let (word, inner) = parts_of(line);
+    match word_of(word) {
+        None => Ok(false),
+        Some(word) => take_form(alloc, draft, scratch, word, inner, line, behind),
+    }
+}
+
+#[tactic(auto, using(crate::proofs::Steps::taken_when))]
+fn take_first_head(draft: &mut Draft, line: &[u8]) -> bool
+    ensures { Taken (next_at Phase.Start draft.old line.now) result draft.new }
+{
+    draft.phase = Phase::Second;
+    FIRST_HEAD.as_bytes() == line
+}
+
+#[tactic(auto, using(crate::proofs::Steps::taken_when))]
+fn take_second_head(draft: &mut Draft, line: &[u8]) -> bool
+    ensures { Taken (next_at Phase.Second draft.old line.now) result draft.new }
+{
+    draft.phase = Phase::Types;
+    SECOND_HEAD.as_bytes() == line
+}
+
+/// Takes the next line, newline included, where a program's text may go on so.
+pub(crate) fn take_line(
+    alloc: Global,
+    draft: &mut Draft,
+    scratch: &mut Vec<u8>,
+    line: &[u8],
+    behind: &[u8],
+) -> Result<bool, AllocError>
+    ensures { IfOk result (λ taken. Taken (next draft.old line.now) taken draft.new) }
+{
+    match draft.phase {
+        Phase::Start => Ok(take_first_head(draft, line)),
+        Phase::Second => Ok(take_second_head(draft, line)),
+        Phase::Types
+        | Phase::Globals
+        | Phase::Functions
+        | Phase::Variables
+        | Phase::Commands => take_line_of_form(alloc, draft, scratch, line, behind),
+    }
+}
+
+/// A program before its first line.
+pub(crate) fn start(alloc: Global) -> Result<Draft, AllocError>
+    ensures { IfOk result (λ draft. draft ≡ empty_draft) }
+{
+    let types = Types::new(alloc)?;
+    Ok(Draft {
+        phase: Phase::Start,
+        types,
+        globals: Items::new(alloc),
+        global: empty_global(alloc),
+        functions: Items::new(alloc),
+        function: empty_function(alloc),
+    })
+}
+
+/// Whether a program's text may end here.
+pub(crate) fn is_whole(draft: &Draft) -> bool
+    ensures { result ≡ is_whole draft.now.phase }
+{
+    matches!(draft.phase, Phase::Types | Phase::Globals | Phase::Functions)
+}
+
+/// The program that was read.
+pub(crate) fn into_flat(alloc: Global, mut draft: Draft) -> Result<Flat, AllocError>
+    requires { IsTrue (is_whole draft.phase) }
+    ensures { IfOk result (λ flat. flat ≡ flat_of draft) }
+{
+    close_global(alloc, &mut draft)?;
+    let Draft { phase: _, types, globals, global: _, functions, function: _ } = draft;
+    Ok(Flat { types, globals, functions })
 }

@@ -1,5 +1,5 @@
 -- The parts of a line: its word, what stands between the brackets, and the arguments there.
-use Rattle.std.specs.Prelude.{ℕ, zero, suc, ◌==◌, if◌then◌else◌, List, [], ◌∷◌, drop}
+use Rattle.std.specs.Prelude.{ℕ, zero, suc, ◌==◌, if◌then◌else◌, List, [], ◌∷◌, ◌++◌, drop, Option, Some, None}
 
 -- up to the first such byte
 abbrev pub before : ℕ → List ℕ → List ℕ
@@ -38,3 +38,16 @@ abbrev pub each_in : {X : Type 0} → (List ℕ → X) → ℕ → List ℕ → 
 each_in f zero inner = []
 each_in f (suc k) [] = []
 each_in f (suc k) (c ∷ cs) = f (first (c ∷ cs)) ∷ each_in f k (rest (c ∷ cs))
+
+abbrev pub NEWLINE : ℕ
+NEWLINE = 10
+
+-- with this before the first line
+abbrev pub with_front : List ℕ → Option (List ℕ × List ℕ) → Option (List ℕ × List ℕ)
+with_front front None = None
+with_front front (Some found) = Some (front ++ found.0, found.1)
+
+-- the first line, up to its newline, and what stands behind it
+abbrev pub line_of : List ℕ → Option (List ℕ × List ℕ)
+line_of [] = None
+line_of (c ∷ cs) = if c == NEWLINE then Some (c ∷ [], cs) else with_front (c ∷ []) (line_of cs)

@@ -187,3 +187,19 @@ next_at p d line = next_form d line
 
 abbrev pub next : Draft → List ℕ → Option Draft
 next d line = next_at d.phase d line
+
+-- a text may end here
+abbrev pub is_whole : Phase → Bool
+is_whole phase.Types = true
+is_whole phase.Globals = true
+is_whole phase.Functions = true
+is_whole p = false
+
+-- what these lines make of it
+abbrev pub run_on : Option Draft → (Draft → Option Draft) → Option Draft
+run_on None go = None
+run_on (Some d) go = go d
+
+abbrev pub run : Draft → List (List ℕ) → Option Draft
+run d [] = Some d
+run d (line ∷ lines) = run_on (next d line) (λ e. run e lines)
