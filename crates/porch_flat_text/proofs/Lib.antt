@@ -4,3 +4,7 @@ pub mod Lists
 pub mod Steps
 -- lines of a text
 pub mod Lines
+-- the parts of a line that is written
+pub mod Written
+-- what is written is read again
+pub mod Decoded

@@ -39,7 +39,7 @@ pub record FunctionFits (f : Function) : Type 0 where
 
 -- a program that a text can say
 pub record IsSayable (flat : Flat) : Type 0 where
-  pub flat : IsFlat flat
+  pub form : IsFlat flat
   pub types : AllByRecursion TypeFits (drop 8 flat.types)
   pub globals : AllByRecursion GlobalFits flat.globals
   pub global_count : length flat.globals ≤ 2 ^ 32
