@@ -8,3 +8,5 @@ pub mod Lines
 pub mod Written
 -- what is written is read again
 pub mod Decoded
+-- what is written of a command is read again
+pub mod Commands
