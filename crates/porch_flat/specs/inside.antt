@@ -1,2 +1,3 @@
 pub mod FirstPlaces
 pub mod Checked
+pub mod Forms

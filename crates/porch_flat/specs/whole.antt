@@ -6,7 +6,11 @@ pub mod Lines
 pub mod Places
 -- how frames are saved and rebuilt
 pub mod Rewritten
+-- which data a text can say
+pub mod Flats
 -- the rules
 pub mod Rules
--- two programs
+-- the first rule that is broken
+pub mod Search
+-- programs, and what the rules say of them
 pub mod Worked

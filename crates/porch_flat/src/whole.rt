@@ -1,9 +1,13 @@
-//! The whole flat text as data: every command, and the rules that a program may break. Nothing runs
-//! these yet; the program that runs uses `flat`.
+//! The whole flat text as data: every command, the rules that a program may break, and the programs that
+//! break none. The program that runs uses `flat` as yet.
+
+mod form;
+mod valid;
 
 use crate::flat::{GlobalObject, Operand};
 use porch_types::Types;
 use sqlite_items::Items;
+pub use valid::{Plain, Valid, ValidFault};
 
 /// How two operands compare.
 #[derive(Clone, Copy, Debug, PartialEq, Eq)]

@@ -1,10 +1,9 @@
 -- Types of variables, of leaves and of the places where operands stand; where labels stand.
-use Rattle.std.specs.Prelude.{ℕ, zero, suc, ◌-◌, ◌==◌, Bool, false, if◌then◌else◌, List, [], ◌∷◌, take, position, slice_get, codes, option_and_then, Option, Some, None}
+use Rattle.std.specs.Prelude.{ℕ, ◌==◌, nat_lt, Bool, false, if◌then◌else◌, List, [], ◌∷◌, length, take, position, slice_get, codes, option_and_then, Option, Some, None}
 use Rattle.std.specs.Str.{bytes_eq}
 use Rattle.porch_types.specs.declared.shapes.Ty.{Ty}
-use Rattle.porch_types.specs.declared.shapes.Ty.TheVariants.{Whole, Pointer}
-use Rattle.porch_types.specs.declared.parts.Part.{Part}
-use Rattle.porch_types.specs.Rows.{part_at}
+use Rattle.porch_types.specs.declared.shapes.Ty.TheVariants.{Pointer}
+use Rattle.porch_types.specs.LeafTypes.{leaf_type as type_of_leaf}
 use Rattle.porch_values.specs.declared.acts.Op.{Op}
 use Rattle.porch_values.specs.Integers.{is_shift}
 use Rattle.porch_flat.specs.declared.flat.GlobalObject.{GlobalObject}
@@ -146,17 +145,6 @@ places_of flat f form = []
 abbrev pub place_type : Flat → Function → Command → ℕ → Option ℕ
 place_type flat f c i = option_and_then (λ p. p.ty) (slice_get (places_of flat f (form_of c)) i)
 
-abbrev pub leaf_or_part : Option Ty → ℕ → Option Part → (Part → Option ℕ) → Option ℕ
-leaf_or_part (Some (Whole kind)) ty part go = Some ty
-leaf_or_part (Some (Pointer to)) ty part go = Some ty
-leaf_or_part other ty part go = option_and_then go part
-
--- the type of a leaf, which is an integer or a pointer (nested at most so deep)
-abbrev pub leaf_within : ℕ → List Ty → ℕ → ℕ → Option ℕ
-leaf_within zero types ty leaf = None
-leaf_within (suc depth) types ty leaf =
-    leaf_or_part (slice_get types ty) ty (part_at types ty leaf)
-    (λ part. leaf_within depth types part.ty (leaf - part.first))
-
+-- the type of a leaf, which is an integer or a pointer
 abbrev pub leaf_type : List Ty → ℕ → ℕ → Option ℕ
-leaf_type types ty leaf = leaf_within (suc ty) types ty leaf
+leaf_type types ty leaf = if nat_lt ty (length types) then Some (type_of_leaf types ty leaf) else None

@@ -1,5 +1,5 @@
 -- The rules of flat programs, line by line. A program is valid where no line breaks a rule.
-use Rattle.std.specs.Prelude.{ℕ, ℤ, zero, suc, ◌≡◌, ◌<◌, ◌≤◌, ◌+◌, ◌^◌, ◌⊎◌, ◌==◌, nat_lt, nat_le, Bool, true, false, ◌&&◌, ◌||◌, pos, List, [], ◌∷◌, length, take, sum_by, slice_get, option_and_then, Option, Some, None, is_some}
+use Rattle.std.specs.Prelude.{ℕ, ℤ, zero, suc, ◌≡◌, ◌<◌, ◌≤◌, ◌+◌, ◌^◌, ◌⊎◌, ◌==◌, nat_lt, nat_le, Bool, true, false, ◌&&◌, ◌||◌, pos, List, [], ◌∷◌, length, take, sum_by, slice_get, option_and_then, Option, Some, None, is_some, ⊤}
 use Rattle.std.specs.List.{list_all}
 use Rattle.std.specs.Ordering.{int_eq}
 use Rattle.porch_types.specs.declared.shapes.Ty.{Ty}
@@ -18,6 +18,8 @@ use Rattle.porch_flat.specs.declared.whole.Function.{Function}
 use Rattle.porch_flat.specs.declared.whole.Flat.{Flat}
 use Rattle.porch_flat.specs.declared.whole.Sort.{Sort}
 use Rattle.porch_flat.specs.declared.whole.Sort.TheVariants as sort
+use Rattle.porch_flat.specs.declared.whole.valid.ValidFault.{ValidFault}
+use Rattle.porch_flat.specs.declared.whole.valid.ValidFault.TheVariants.{NotValid, NoMemory}
 use Rattle.porch_flat.specs.whole.Form.{Form, form_of, Within, global, move, cast, operator, complement, comparison, subobject, step, difference, load, store, copy, allocate, free, show, text, label, call, return, operands_of, variables_of, free_numbers_of, jump_of, is_turn}
 use Rattle.porch_flat.specs.whole.Lines.{Line, type_line, global_line, init_line, function_line, var_line, command_line, line_at, line_behind}
 use Rattle.porch_flat.specs.whole.Places.{INT, LONG, CHAR, Place, places_of, place_of_label, main_of, params_of, result_of, type_at, pointed, type_of_var, pointee_of_var, type_within, global_type, own_type, compared_type, right_type, leaf_type}
@@ -34,10 +36,10 @@ MOST_GLOBAL_LEAVES = 8_388_608
 abbrev pub is_number_of : ℕ → Bool
 is_number_of n = nat_lt n LIMIT
 
--- the leaf is one of the type; where there is no type another rule is broken
+-- the leaf is one of the type; where the type isn't known another rule is broken
 abbrev pub is_leaf_of : List Ty → Option ℕ → ℕ → Bool
 is_leaf_of types None leaf = true
-is_leaf_of types (Some ty) leaf = nat_lt leaf (leaves_of types ty)
+is_leaf_of types (Some ty) leaf = nat_lt ty (length types) && nat_lt leaf (leaves_of types ty)
 
 abbrev pub is_type : Flat → ℕ → Bool
 is_type flat ty = nat_lt ty (length flat.types)
@@ -141,7 +143,8 @@ fits f place = fits_at f place.operand place.ty
 
 -- a subobject of the pointee type begins at the leaf
 abbrev pub begins_at : List Ty → (root ty : Option ℕ) → ℕ → Bool
-begins_at types (Some root) (Some ty) leaf = is_some (row_at types root 1 leaf ty)
+begins_at types (Some root) (Some ty) leaf =
+    nat_lt root (length types) && is_some (row_at types root 1 leaf ty)
 begins_at types root ty leaf = false
 
 module _ (flat : Flat) (f : Function) where
@@ -319,3 +322,8 @@ pub record IsFirstBroken (s : Sort) (flat : Flat) (number : ℕ) (r : FlatRule) 
   pub broken : Breaks s flat number r
   pub first : (n : ℕ) (other : FlatRule) → Breaks s flat n other
       → (number < n) ⊎ ((number ≡ n) × (rule_rank r ≤ rule_rank other))
+
+-- why a program is refused: exactly by that rule in that line, or for want of memory
+abbrev pub IsRefused : Sort → Flat → ValidFault → Type 0
+IsRefused s flat (NotValid line r) = IsFirstBroken s flat line r
+IsRefused s flat NoMemory = ⊤
