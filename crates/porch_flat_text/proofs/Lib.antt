@@ -10,3 +10,11 @@ pub mod Written
 pub mod Decoded
 -- what is written of a command is read again
 pub mod Commands
+-- the text of a program is that of its parts
+pub mod Parts
+-- how far a text was read
+pub mod Reading
+-- what is read has numbers that fit
+pub mod Small
+-- texts of lists with one more part
+pub mod Pushed

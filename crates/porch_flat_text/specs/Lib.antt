@@ -6,6 +6,8 @@ pub mod Text
 pub mod Fitting
 -- the first line that is wrong
 pub mod FirstWrong
+-- what reading answers
+pub mod Parsing
 -- the arguments that code has in hand
 pub mod Arguments
 -- what only private contracts cite

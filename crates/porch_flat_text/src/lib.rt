@@ -6,8 +6,12 @@ mod cut;
 mod draft;
 mod line;
 mod number;
+mod parse;
+mod print;
 mod put;
 mod word;
 
+pub use parse::{FlatFault, parse_flat};
+pub use print::print_flat;
 pub use put::Argument;
 pub use word::{Word, text_of_word};

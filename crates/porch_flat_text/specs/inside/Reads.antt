@@ -1,0 +1,38 @@
+-- How far a text was read.
+use Rattle.std.specs.Prelude.{◌≡◌, ℕ, ◌+◌, ◌==◌, Bool, List, ◌++◌, length, Option, Some, None, ⊤}
+use Rattle.std.specs.List.{concat, AllByRecursion}
+use Rattle.porch_flat_text.specs.declared.draft.Draft.{Draft}
+use Rattle.porch_flat_text.specs.declared.parse.FlatFault.{FlatFault}
+use Rattle.porch_flat_text.specs.declared.parse.FlatFault.TheVariants.{FlatSyntax, NoMemory}
+use Rattle.porch_flat_text.specs.FirstWrong.{IsLine}
+use Rattle.porch_flat_text.specs.inside.Cuts.{line_of}
+use Rattle.porch_flat_text.specs.inside.Drafts.{empty_draft, next, run}
+
+-- the lines before the rest make this draft, and line number n is to come
+pub record HasRead (text rest : List ℕ) (n : ℕ) (d : Draft) : Type 0 where
+  pub lines : List (List ℕ)
+  pub split : text ≡ concat lines ++ rest
+  pub whole : AllByRecursion IsLine lines
+  pub number : n ≡ length lines + 1
+  pub made : run empty_draft lines ≡ Some d
+
+-- all whole lines were read
+pub record IsEnded (text : List ℕ) (n : ℕ) (ended : Bool) (d : Draft) : Type 0 where
+  pub rest : List ℕ
+  pub read : HasRead text rest n d
+  pub none : line_of rest ≡ None
+  pub all : ended ≡ (length rest == 0)
+
+-- line number n isn't taken
+pub record IsStopped (text : List ℕ) (n : ℕ) : Type 0 where
+  pub draft : Draft
+  pub rest : List ℕ
+  pub line : List ℕ
+  pub more : List ℕ
+  pub read : HasRead text rest n draft
+  pub found : line_of rest ≡ Some (line, more)
+  pub refused : next draft line ≡ None
+
+abbrev pub IsStoppedBy : List ℕ → FlatFault → Type 0
+IsStoppedBy text (FlatSyntax n) = IsStopped text n
+IsStoppedBy text NoMemory = ⊤
