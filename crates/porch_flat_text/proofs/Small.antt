@@ -36,7 +36,7 @@ by_sign true y z h k = h
 by_sign false y z h k = k
 
 pub constant_fits : (s : List ℕ) → FitsSigned w128 (constant_in s)
-constant_fits [] = lit< tt
+constant_fits [] = omega arith
 constant_fits (c ∷ cs) = by_sign (eqb c 45) _ _ (negative_fits (min (magnitude_in cs) 170141183460469231731687303715884105728) (omega arith)) (omega arith)
 
 operand_by : (b : Bool) (v : ℕ) (z : ℤ) → v < 2 ^ 32 → FitsSigned w128 z → ArgumentFits (operand (cond b (Var v) (Constant z)))
@@ -44,7 +44,7 @@ operand_by true v z h k = h
 operand_by false v z h k = k
 
 pub operand_fits : (s : List ℕ) → ArgumentFits (operand (operand_in s))
-operand_fits [] = lit< tt
+operand_fits [] = constant_fits []
 operand_fits (c ∷ cs) = operand_by (eqb c 118) (number_in cs) (constant_in (c ∷ cs)) (number_fits cs) (constant_fits (c ∷ cs))
 
 operand_list_fits : (s : List ℕ) → AllByRecursion ArgumentFits (operand_list (operand_if_any s))

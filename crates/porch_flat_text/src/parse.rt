@@ -5,7 +5,7 @@ ghost use Rattle.porch_flat.specs.declared.whole.Flat.{Flat};
 ghost use Rattle.porch_flat_text.specs.Text.{Text};
 ghost use Rattle.porch_flat_text.specs.Fitting.{IsSayable};
 ghost use Rattle.porch_flat_text.specs.Parsing.{Gives, IsRefused};
-ghost use Rattle.porch_flat_text.specs.inside.Reads.{HasRead, IsEnded, IsStoppedBy};
+ghost use Rattle.porch_flat_text.specs.inside.Reads.{HasRead, IsEnded, IsParsed, IsRefusedBy, IsStoppedBy};
 ghost use Rattle.porch_flat_text.specs.inside.Drafts.{empty_draft, is_whole};
 ghost use Rattle.porch_flat_text.specs.declared.parse.FlatFault.TheVariants.{NoMemory};
 
@@ -38,6 +38,13 @@ pub fn parse_flat(alloc: Global, text: &[u8]) -> Result<Flat, FlatFault>
     ensures read { IfOk result (λ flat. (Text flat ≡ text.now) × IsSayable flat) }
     ensures only { (flat : Flat) → IsSayable flat → Text flat ≡ text.now → Gives flat result }
     ensures refused { IfErr result (λ fault. IsRefused text.now fault) }
+{
+    read_flat(alloc, text)
+}
+
+fn read_flat(alloc: Global, text: &[u8]) -> Result<Flat, FlatFault>
+    ensures parsed { IfOk result (λ flat. IsParsed text.now flat) }
+    ensures refused { IfErr result (λ fault. IsRefusedBy text.now fault) }
 {
     let mut draft = start(alloc)?;
     let (line, ended) = read_lines(alloc, &mut draft, text)?;

@@ -15,7 +15,6 @@ use porch_types::Types;
 use std::alloc::{AllocError, Global};
 
 /// The text of a program, in its one spelling.
-#[tactic(auto, using(crate::proofs::Parts::text_from))]
 pub fn print_flat(alloc: Global, flat: &Flat) -> Result<Vec<u8>, AllocError>
     ensures { IfOk result (λ text. text.items ≡ Text flat.now) }
 {
@@ -53,7 +52,6 @@ fn put_parts(out: &mut Vec<u8>, flat: &Flat) -> Result<(), AllocError>
     put_functions(out, flat.functions.as_slice())
 }
 
-#[tactic(auto, using(crate::proofs::Parts::type_put))]
 fn put_types(out: &mut Vec<u8>, types: &Types) -> Result<(), AllocError>
     ensures { OnOk result (out.new.items ≡ out.old.items ++ types_text 8 (drop 8 types.now)) }
 {

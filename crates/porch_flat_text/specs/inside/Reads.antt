@@ -1,12 +1,13 @@
 -- How far a text was read.
-use Rattle.std.specs.Prelude.{◌≡◌, ℕ, ◌+◌, ◌==◌, Bool, List, ◌++◌, length, Option, Some, None, ⊤}
+use Rattle.std.specs.Prelude.{◌≡◌, ◌⊎◌, ◌&&◌, true, false, ℕ, ◌+◌, ◌==◌, Bool, List, ◌++◌, length, Option, Some, None, ⊤}
 use Rattle.std.specs.List.{concat, AllByRecursion}
+use Rattle.porch_flat.specs.declared.whole.Flat.{Flat}
 use Rattle.porch_flat_text.specs.declared.draft.Draft.{Draft}
 use Rattle.porch_flat_text.specs.declared.parse.FlatFault.{FlatFault}
 use Rattle.porch_flat_text.specs.declared.parse.FlatFault.TheVariants.{FlatSyntax, NoMemory}
 use Rattle.porch_flat_text.specs.FirstWrong.{IsLine}
 use Rattle.porch_flat_text.specs.inside.Cuts.{line_of}
-use Rattle.porch_flat_text.specs.inside.Drafts.{empty_draft, next, run}
+use Rattle.porch_flat_text.specs.inside.Drafts.{empty_draft, next, run, is_whole, flat_of}
 
 -- the lines before the rest make this draft, and line number n is to come
 pub record HasRead (text rest : List ℕ) (n : ℕ) (d : Draft) : Type 0 where
@@ -36,3 +37,22 @@ pub record IsStopped (text : List ℕ) (n : ℕ) : Type 0 where
 abbrev pub IsStoppedBy : List ℕ → FlatFault → Type 0
 IsStoppedBy text (FlatSyntax n) = IsStopped text n
 IsStoppedBy text NoMemory = ⊤
+
+-- all was read, and the program is whole
+pub record IsParsed (text : List ℕ) (flat : Flat) : Type 0 where
+  pub draft : Draft
+  pub line : ℕ
+  pub read : IsEnded text line true draft
+  pub whole : is_whole draft.phase ≡ true
+  pub made : flat ≡ flat_of draft
+
+-- all whole lines were read, and the text goes on, or the program does
+pub record IsCut (text : List ℕ) (n : ℕ) : Type 0 where
+  pub draft : Draft
+  pub ended : Bool
+  pub read : IsEnded text n ended draft
+  pub cut : (ended && is_whole draft.phase) ≡ false
+
+abbrev pub IsRefusedBy : List ℕ → FlatFault → Type 0
+IsRefusedBy text (FlatSyntax n) = IsStopped text n ⊎ IsCut text n
+IsRefusedBy text NoMemory = ⊤
