@@ -18,3 +18,5 @@ pub mod Reading
 pub mod Small
 -- texts of lists with one more part
 pub mod Pushed
+-- a line that is taken makes a longer text
+pub mod Sound

@@ -1,7 +1,6 @@
 -- Which drafts are begun programs, and the text that was read for one.
-use Rattle.std.specs.Prelude.{◌≡◌, ℕ, ◌+◌, ◌≤◌, ◌^◌, IsTrue, List, [], ◌++◌, drop, length, ⊤}
+use Rattle.std.specs.Prelude.{◌≡◌, ℕ, ◌+◌, ◌≤◌, ◌^◌, IsTrue, List, [], ◌∷◌, ◌++◌, drop, length, ⊤}
 use Rattle.std.specs.List.{list_all, AllByRecursion}
-use Rattle.porch_types.specs.Leaves.{IsTypes}
 use Rattle.porch_flat.specs.declared.flat.GlobalObject.{GlobalObject}
 use Rattle.porch_flat.specs.declared.whole.Function.{Function}
 use Rattle.porch_flat.specs.whole.Flats.{is_built, is_said, is_function_name}
@@ -37,7 +36,7 @@ Opened p f = ⊤
 
 pub record Good (d : Draft) : Type 0 where
   pub order : Ordered d.phase d
-  pub types : IsTypes d.types
+  pub eight : 8 ≤ length d.types
   pub built : IsTrue (list_all is_built (drop 8 d.types))
   pub type_fits : AllByRecursion TypeFits (drop 8 d.types)
   pub globals : AllByRecursion GoodGlobal d.globals
