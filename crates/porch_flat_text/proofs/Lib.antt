@@ -20,3 +20,7 @@ pub mod Small
 pub mod Pushed
 -- a line that is taken makes a longer text
 pub mod Sound
+-- types are added one after another
+pub mod TypesRun
+-- the lines of a program are taken
+pub mod Complete

@@ -70,7 +70,7 @@ end_globals h s t a more r b m e = rw (m, e) (simp (append_assoc, append-nil))
 end_functions : (h s t g c more r : List ℕ) → more ≡ c ++ r → h ++ (s ++ (t ++ (g ++ more))) ≡ (h ++ (s ++ (t ++ (g ++ c)))) ++ r
 end_functions h s t g c more r m = rw m (simp append_assoc)
 
-abbrev draft : Phase → List Ty → List GlobalObject → GlobalObject → List Function → Function → Draft
+abbrev pub draft : Phase → List Ty → List GlobalObject → GlobalObject → List Function → Function → Draft
 draft p ts gs g fs f = record { phase = p; types = ts; globals = gs; global = g; functions = fs; function = f }
 
 some_built : (w : Word) (inner : List ℕ) → IsTrue (is_built (type_from w inner))
@@ -346,3 +346,103 @@ end_step ts gs g fs f good =
         text = end_functions first_head second_head (types_text 8 (drop 8 ts)) (globals_text 0 gs) (ft ++ (h ++ (v ++ (begin_text ++ commands_text f.commands)))) (functions_text 0 (fs ++ f ∷ [])) end_text
             (functions_pushed 0 fs f ∙ ap (λ n. ft ++ function_text n f) (zero-add (length fs)) ∙ regroup_more ft h v begin_text (commands_text f.commands) end_text);
     }
+
+choose : (b : Bool) (x y : Option Draft) (e : Draft) (P : Type 0) → (x ≡ Some e → P) → (y ≡ Some e → P) → cond b x y ≡ Some e → P
+choose true x y e P f g h = f h
+choose false x y e P f g h = g h
+
+nothing : (e : Draft) (P : Type 0) → None ≡ Some e → P
+nothing e P h = cc
+
+some_command_step : (ts : List Ty) (gs : List GlobalObject) (g : GlobalObject) (fs : List Function) (f : Function) (o : Option Command) (line : List ℕ) (e : Draft)
+    → IfSome o (λ c. RowFits (command_row c)) → Good (draft phase.Commands ts gs g fs f)
+    → with_some_command (draft phase.Commands ts gs g fs f) o line ≡ Some e → StepGood (draft phase.Commands ts gs g fs f) line e
+some_command_step ts gs g fs f None line e fits good h = nothing e _ h
+some_command_step ts gs g fs f (Some c) line e fits good h =
+    let d = draft phase.Commands ts gs g fs f in
+    step_if d _ e true line (row_text (command_row c)) (λ _. command_step ts gs g fs f c fits good) h
+
+in_phase : (p : Phase) (ts : List Ty) (gs : List GlobalObject) (g : GlobalObject) (fs : List Function) (f : Function) (w : Word) (inner line : List ℕ) (e : Draft)
+    → Good (draft p ts gs g fs f) → next_in (draft p ts gs g fs f) p w inner line ≡ Some e → StepGood (draft p ts gs g fs f) line e
+in_phase phase.Start ts gs g fs f w inner line e good h = nothing e _ h
+in_phase phase.Second ts gs g fs f w inner line e good h = nothing e _ h
+in_phase phase.Types ts gs g fs f w inner line e good h =
+    let d = draft phase.Types ts gs g fs f in
+    choose (is_type_word w) _ _ e (StepGood d line e)
+    (step_if d _ e _ line _ (λ _. type_step ts gs g fs f w inner good))
+    (choose (is_word w word.Global) _ _ e (StepGood d line e)
+    (step_if d _ e _ line _ (λ c. global_step phase.Types ts gs g fs f (number_in (first (rest inner))) refl good.order.1 good.function_count refl (number_fits (first (rest inner))) good c))
+    (choose (is_word w word.Function) _ _ e (StepGood d line e)
+    (step_if d _ e _ line _ (λ c. function_step phase.Types ts gs g fs f inner refl good c))
+    (nothing e (StepGood d line e)))) h
+in_phase phase.Globals ts gs g fs f w inner line e good h =
+    let d = draft phase.Globals ts gs g fs f in
+    choose (is_init_word w) _ _ e (StepGood d line e)
+    (step_if d _ e _ line _ (λ c. init_step ts gs g fs f (init_from w inner) (init_from_fits w inner) good c))
+    (choose (is_word w word.Global) _ _ e (StepGood d line e)
+    (step_if d _ e _ line _ (λ c. global_step phase.Globals ts gs g fs f (number_in (first (rest inner))) refl good.order good.function_count refl (number_fits (first (rest inner))) good c))
+    (choose (is_word w word.Function) _ _ e (StepGood d line e)
+    (step_if d _ e _ line _ (λ c. function_step phase.Globals ts gs g fs f inner refl good c))
+    (nothing e (StepGood d line e)))) h
+in_phase phase.Functions ts gs g fs f w inner line e good h =
+    let d = draft phase.Functions ts gs g fs f in
+    choose (is_word w word.Function) _ _ e (StepGood d line e)
+    (step_if d _ e _ line _ (λ c. function_step phase.Functions ts gs g fs f inner refl good c))
+    (nothing e (StepGood d line e)) h
+in_phase phase.Variables ts gs g fs f w inner line e good h =
+    let d = draft phase.Variables ts gs g fs f in
+    choose (is_word w word.Var) _ _ e (StepGood d line e)
+    (step_if d _ e _ line _ (λ c. variable_step ts gs g fs f (number_in (first (rest inner))) (number_fits (first (rest inner))) good c))
+    (choose (is_word w word.Begin) _ _ e (StepGood d line e)
+    (step_if d _ e true line _ (λ _. begin_step ts gs g fs f good))
+    (nothing e (StepGood d line e))) h
+in_phase phase.Commands ts gs g fs f w inner line e good h =
+    let d = draft phase.Commands ts gs g fs f in
+    choose (is_word w word.End) _ _ e (StepGood d line e)
+    (step_if d _ e true line _ (λ _. end_step ts gs g fs f good))
+    (some_command_step ts gs g fs f (command_from w inner) line e (command_fits w inner) good) h
+
+by_word : (p : Phase) (ts : List Ty) (gs : List GlobalObject) (g : GlobalObject) (fs : List Function) (f : Function) (o : Option Word) (inner line : List ℕ) (e : Draft)
+    → Good (draft p ts gs g fs f) → next_by (draft p ts gs g fs f) o inner line ≡ Some e → StepGood (draft p ts gs g fs f) line e
+by_word p ts gs g fs f None inner line e good h = nothing e _ h
+by_word p ts gs g fs f (Some w) inner line e good h = in_phase p ts gs g fs f w inner line e good h
+
+start_step : (ts : List Ty) (gs : List GlobalObject) (g : GlobalObject) (fs : List Function) (f : Function)
+    → Good (draft phase.Start ts gs g fs f) → StepGood (draft phase.Start ts gs g fs f) first_head (draft phase.Second ts gs g fs f)
+start_step ts gs g fs f good =
+    record {
+        good = record {
+            order = good.order; eight = good.eight; built = good.built; type_fits = good.type_fits; globals = good.globals; global = good.global; global_count = good.global_count;
+            functions = good.functions; function = tt; function_count = good.function_count;
+        };
+        text = refl;
+    }
+
+no_body : (ts : List Ty) (gs : List GlobalObject) (fs : List Function) → drop 8 ts ≡ [] → gs ≡ [] → fs ≡ [] → types_text 8 (drop 8 ts) ++ (globals_text 0 gs ++ functions_text 0 fs) ≡ []
+no_body ts gs fs t g f = rw (t, g, f) refl
+
+second_step : (ts : List Ty) (gs : List GlobalObject) (g : GlobalObject) (fs : List Function) (f : Function)
+    → Good (draft phase.Second ts gs g fs f) → StepGood (draft phase.Second ts gs g fs f) second_head (draft phase.Types ts gs g fs f)
+second_step ts gs g fs f good =
+    record {
+        good = record {
+            order = (good.order.1, good.order.2); eight = good.eight; built = good.built; type_fits = good.type_fits; globals = good.globals; global = good.global; global_count = good.global_count;
+            functions = good.functions; function = tt; function_count = good.function_count;
+        };
+        text = ap (λ t. first_head ++ (second_head ++ t)) (no_body ts gs fs good.order.0 good.order.1 good.order.2) ∙ refl;
+    }
+
+at_phase : (p : Phase) (ts : List Ty) (gs : List GlobalObject) (g : GlobalObject) (fs : List Function) (f : Function) (line : List ℕ) (e : Draft)
+    → Good (draft p ts gs g fs f) → next_at p (draft p ts gs g fs f) line ≡ Some e → StepGood (draft p ts gs g fs f) line e
+at_phase phase.Start ts gs g fs f line e good h =
+    step_if (draft phase.Start ts gs g fs f) (draft phase.Second ts gs g fs f) e true line first_head (λ _. start_step ts gs g fs f good) h
+at_phase phase.Second ts gs g fs f line e good h =
+    step_if (draft phase.Second ts gs g fs f) (draft phase.Types ts gs g fs f) e true line second_head (λ _. second_step ts gs g fs f good) h
+at_phase phase.Types ts gs g fs f line e good h = by_word phase.Types ts gs g fs f (word_from (word_part line)) (inner_part line) line e good h
+at_phase phase.Globals ts gs g fs f line e good h = by_word phase.Globals ts gs g fs f (word_from (word_part line)) (inner_part line) line e good h
+at_phase phase.Functions ts gs g fs f line e good h = by_word phase.Functions ts gs g fs f (word_from (word_part line)) (inner_part line) line e good h
+at_phase phase.Variables ts gs g fs f line e good h = by_word phase.Variables ts gs g fs f (word_from (word_part line)) (inner_part line) line e good h
+at_phase phase.Commands ts gs g fs f line e good h = by_word phase.Commands ts gs g fs f (word_from (word_part line)) (inner_part line) line e good h
+
+pub step_good : (d : Draft) (line : List ℕ) (e : Draft) → Good d → next d line ≡ Some e → StepGood d line e
+step_good d line e good h = at_phase d.phase d.types d.globals d.global d.functions d.function line e good h
