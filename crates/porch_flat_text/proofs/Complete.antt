@@ -110,3 +110,117 @@ types_run (ty ∷ more) ts g f n e built fits types =
     one_run (row_text (type_row n ty)) (map line_text (type_lines (n + 1) more)) (draft phase.Types ts [] g [] f) (draft phase.Types (ts ++ ty ∷ []) [] g [] f) (draft phase.Types (ts ++ ty ∷ more) [] g [] f)
     (type_one ts g f ty n e (omega (arith, few, e)) b.0 fits.0 (lt-ltb (length ts) (2 ^ 31) few) (adds_next ts ty more types))
     (types_run more (ts ++ ty ∷ []) g f (n + 1) long b.1 fits.1 again ∙ ap (λ xs. Some (draft phase.Types xs [] g [] f)) (append_assoc ts (ty ∷ []) more))
+
+-- a global may begin
+abbrev pub is_early : Phase → Bool
+is_early phase.Types = true
+is_early phase.Globals = true
+is_early p = false
+
+global_taken : (p : Phase) (ts : List Ty) (gs : List GlobalObject) (g : GlobalObject) (fs : List Function) (f : Function) (inner : List ℕ) (ty : ℕ) → number_in (first (rest inner)) ≡ ty → nat_lt (length (globals_of p gs g)) (2 ^ 32) ≡ true
+    → with_global (draft p ts gs g fs f) inner (row_text (row word.Global (number (length (globals_of p gs g)) ∷ number ty ∷ []))) ≡ Some (draft phase.Globals ts (globals_of p gs g) (record { ty = ty; inits = [] }) fs f)
+global_taken p ts gs g fs f inner ty is few =
+    let all = globals_of p gs g in
+    let line = row_text (row word.Global (number (length all) ∷ number ty ∷ [])) in
+    let P : ℕ → Type 0 = λ t. taken_if (nat_lt (length all) (2 ^ 32)) line (row_text (row word.Global (number (length all) ∷ number t ∷ []))) (draft phase.Globals ts all (record { ty = t; inits = [] }) fs f) ≡ Some (draft phase.Globals ts all (record { ty = ty; inits = [] }) fs f) in
+    subst P (sym is) (taken_so (nat_lt (length all) (2 ^ 32)) line (draft phase.Globals ts all (record { ty = ty; inits = [] }) fs f) few)
+
+global_one : (p : Phase) (ts : List Ty) (gs : List GlobalObject) (g : GlobalObject) (fs : List Function) (f : Function) (n ty : ℕ) → is_early p ≡ true → n ≡ length (globals_of p gs g) → n < 2 ^ 32 → ty < 2 ^ 32
+    → next (draft p ts gs g fs f) (row_text (row word.Global (number n ∷ number ty ∷ []))) ≡ Some (draft phase.Globals ts (globals_of p gs g) (record { ty = ty; inits = [] }) fs f)
+global_one phase.Types ts gs g fs f n ty early e low fits =
+    let d = draft phase.Types ts gs g fs f in
+    let args = number n ∷ number ty ∷ [] in
+    form_next d word.Global args (low, (fits, tt))
+    ∙ ap (λ k. with_global d (arguments_text args) (row_text (row word.Global (number k ∷ number ty ∷ [])))) e
+    ∙ global_taken phase.Types ts gs g fs f (arguments_text args) ty (at_second number_in (number n) (number ty) [] ty low fits (number_again ty fits))
+      (lt-ltb (length (globals_of phase.Types gs g)) (2 ^ 32) (omega (arith, low, e)))
+global_one phase.Globals ts gs g fs f n ty early e low fits =
+    let d = draft phase.Globals ts gs g fs f in
+    let args = number n ∷ number ty ∷ [] in
+    form_next d word.Global args (low, (fits, tt))
+    ∙ ap (λ k. with_global d (arguments_text args) (row_text (row word.Global (number k ∷ number ty ∷ [])))) e
+    ∙ global_taken phase.Globals ts gs g fs f (arguments_text args) ty (at_second number_in (number n) (number ty) [] ty low fits (number_again ty fits))
+      (lt-ltb (length (globals_of phase.Globals gs g)) (2 ^ 32) (omega (arith, low, e)))
+global_one phase.Start ts gs g fs f n ty early e low fits = cc
+global_one phase.Second ts gs g fs f n ty early e low fits = cc
+global_one phase.Functions ts gs g fs f n ty early e low fits = cc
+global_one phase.Variables ts gs g fs f n ty early e low fits = cc
+global_one phase.Commands ts gs g fs f n ty early e low fits = cc
+
+-- initial values
+address_same : (a b c x y z : ℕ) → a ≡ x → b ≡ y → c ≡ z → Address a b c ≡ Address x y z
+address_same a b c x y z e f g = cc
+
+init_taken : (ts : List Ty) (gs : List GlobalObject) (ty : ℕ) (inits : List Init) (fs : List Function) (f : Function) (w : Word) (inner : List ℕ) (init : Init) → init_from w inner ≡ init → is_said init ≡ true
+    → with_init (draft phase.Globals ts gs (record { ty = ty; inits = inits }) fs f) w inner (row_text (init_row (length gs) init)) ≡ Some (draft phase.Globals ts gs (record { ty = ty; inits = inits ++ init ∷ [] }) fs f)
+init_taken ts gs ty inits fs f w inner init is said =
+    let line = row_text (init_row (length gs) init) in
+    let P : Init → Type 0 = λ i. taken_if (is_said i) line (row_text (init_row (length gs) i)) (draft phase.Globals ts gs (record { ty = ty; inits = inits ++ i ∷ [] }) fs f) ≡ Some (draft phase.Globals ts gs (record { ty = ty; inits = inits ++ init ∷ [] }) fs f) in
+    subst P (sym is) (taken_so (is_said init) line (draft phase.Globals ts gs (record { ty = ty; inits = inits ++ init ∷ [] }) fs f) said)
+
+init_one : (ts : List Ty) (gs : List GlobalObject) (ty : ℕ) (inits : List Init) (fs : List Function) (f : Function) (n : ℕ) (init : Init) → n ≡ length gs → n < 2 ^ 32 → RowFits (init_row 0 init) → is_said init ≡ true
+    → next (draft phase.Globals ts gs (record { ty = ty; inits = inits }) fs f) (row_text (init_row n init)) ≡ Some (draft phase.Globals ts gs (record { ty = ty; inits = inits ++ init ∷ [] }) fs f)
+init_one ts gs ty inits fs f n (Value leaf z) e low fits said =
+    let d = draft phase.Globals ts gs (record { ty = ty; inits = inits }) fs f in
+    let args = number n ∷ number leaf ∷ constant z ∷ [] in
+    let a : number_in (first (rest (arguments_text args))) ≡ leaf = at_second number_in (number n) (number leaf) (constant z ∷ []) leaf low fits.1.0 (number_again leaf fits.1.0) in
+    let b : constant_in (first (rest (rest (arguments_text args)))) ≡ z = at_third constant_in (number n) (number leaf) (constant z) [] z low fits.1.0 fits.1.1.0 (constant_again z fits.1.1.0) in
+    form_next d word.Init args (low, fits.1)
+    ∙ ap (λ k. with_init d word.Init (arguments_text args) (row_text (init_row k (Value leaf z)))) e
+    ∙ init_taken ts gs ty inits fs f word.Init (arguments_text args) (Value leaf z) (ap (λ x. Value x (constant_in (first (rest (rest (arguments_text args)))))) a ∙ ap (λ y. Value leaf y) b) said
+init_one ts gs ty inits fs f n (Address leaf other place) e low fits said =
+    let d = draft phase.Globals ts gs (record { ty = ty; inits = inits }) fs f in
+    let args = number n ∷ number leaf ∷ number other ∷ number place ∷ [] in
+    let a : number_in (first (rest (arguments_text args))) ≡ leaf = at_second number_in (number n) (number leaf) (number other ∷ number place ∷ []) leaf low fits.1.0 (number_again leaf fits.1.0) in
+    let b : number_in (first (rest (rest (arguments_text args)))) ≡ other = at_third number_in (number n) (number leaf) (number other) (number place ∷ []) other low fits.1.0 fits.1.1.0 (number_again other fits.1.1.0) in
+    let c : number_in (first (rest (rest (rest (arguments_text args))))) ≡ place = at_fourth number_in (number n) (number leaf) (number other) (number place) [] place low fits.1.0 fits.1.1.0 fits.1.1.1.0 (number_again place fits.1.1.1.0) in
+    form_next d word.InitA args (low, fits.1)
+    ∙ ap (λ k. with_init d word.InitA (arguments_text args) (row_text (init_row k (Address leaf other place)))) e
+    ∙ init_taken ts gs ty inits fs f word.InitA (arguments_text args) (Address leaf other place) (address_same _ _ _ leaf other place a b c) said
+
+inits_run : (more inits : List Init) (ts : List Ty) (gs : List GlobalObject) (ty : ℕ) (fs : List Function) (f : Function) (n : ℕ) (g : GlobalObject) (place : ℕ) → n ≡ length gs → n < 2 ^ 32
+    → AllByRecursion (λ init. RowFits (init_row 0 init)) more → IsTrue (list_all is_said more)
+    → run (draft phase.Globals ts gs (record { ty = ty; inits = inits }) fs f) (map line_text (init_lines n g place more)) ≡ Some (draft phase.Globals ts gs (record { ty = ty; inits = inits ++ more }) fs f)
+inits_run [] inits ts gs ty fs f n g place e low fits said = ap (λ xs. Some (draft phase.Globals ts gs (record { ty = ty; inits = xs }) fs f)) (sym (append-nil inits))
+inits_run (init ∷ more) inits ts gs ty fs f n g place e low fits said =
+    let b = both_parts (is_said init) (list_all is_said more) said in
+    one_run (row_text (init_row n init)) (map line_text (init_lines n g (place + 1) more)) (draft phase.Globals ts gs (record { ty = ty; inits = inits }) fs f)
+    (draft phase.Globals ts gs (record { ty = ty; inits = inits ++ init ∷ [] }) fs f) (draft phase.Globals ts gs (record { ty = ty; inits = inits ++ init ∷ more }) fs f)
+    (init_one ts gs ty inits fs f n init e low fits.0 b.0)
+    (inits_run more (inits ++ init ∷ []) ts gs ty fs f n g (place + 1) e low fits.1 b.1
+    ∙ ap (λ xs. Some (draft phase.Globals ts gs (record { ty = ty; inits = xs }) fs f)) (append_assoc inits (init ∷ []) more))
+
+-- what is reached behind globals
+pub record AtGlobals (d : Draft) (lines : List (List ℕ)) (ts : List Ty) (all : List GlobalObject) (f : Function) : Type 0 where
+  pub p : Phase
+  pub gs : List GlobalObject
+  pub g : GlobalObject
+  pub made : run d lines ≡ Some (draft p ts gs g [] f)
+  pub early : is_early p ≡ true
+  pub are : globals_of p gs g ≡ all
+
+pub globals_run : (more : List GlobalObject) (p : Phase) (ts : List Ty) (gs : List GlobalObject) (g : GlobalObject) (f : Function) (n : ℕ) → is_early p ≡ true → n ≡ length (globals_of p gs g) → n + length more ≤ 2 ^ 32
+    → AllByRecursion GoodGlobal more → AtGlobals (draft p ts gs g [] f) (map line_text (global_lines n more)) ts (globals_of p gs g ++ more) f
+globals_run [] p ts gs g f n early e low good = record { p = p; gs = gs; g = g; made = refl; early = early; are = sym (append-nil (globals_of p gs g)) }
+globals_run (new ∷ more) p ts gs g f n early e low good =
+    let all = globals_of p gs g in
+    let start = draft p ts gs g [] f in
+    let begun = draft phase.Globals ts all (record { ty = new.ty; inits = [] }) [] f in
+    let filled = draft phase.Globals ts all new [] f in
+    let small : n < 2 ^ 32 = omega (arith, low) in
+    let long : n + 1 ≡ length (all ++ new ∷ []) = omega (arith, length-append all (new ∷ []), e) in
+    let next_ones = globals_run more phase.Globals ts all new f (n + 1) refl long (omega (arith, low)) good.1 in
+    let inits = map line_text (init_lines n new 0 new.inits) in
+    let others = map line_text (global_lines (n + 1) more) in
+    let behind : run begun (inits ++ others) ≡ Some (draft next_ones.p ts next_ones.gs next_ones.g [] f) =
+        then_run inits others begun filled _ (inits_run new.inits [] ts all new.ty [] f n new 0 e small good.0.fits.inits good.0.said) next_ones.made in
+    record {
+        p = next_ones.p;
+        gs = next_ones.gs;
+        g = next_ones.g;
+        made = one_run (line_text (global_line n new)) (map line_text (init_lines n new 0 new.inits ++ global_lines (n + 1) more)) start begun (draft next_ones.p ts next_ones.gs next_ones.g [] f)
+            (global_one p ts gs g [] f n new.ty early e small good.0.fits.ty)
+            (ap (run begun) (map-append line_text (init_lines n new 0 new.inits) (global_lines (n + 1) more)) ∙ behind);
+        early = next_ones.early;
+        are = next_ones.are ∙ append_assoc all (new ∷ []) more;
+    }

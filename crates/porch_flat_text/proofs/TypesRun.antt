@@ -1,5 +1,5 @@
 -- The types of a list of types can be added one after another.
-use Rattle.std.proofs.Common.{◌≡◌, ℕ, zero, suc, ◌+◌, ◌<◌, ◌≤◌, ◌^◌, ◌-◌, Bool, true, false, cond, leb, eqb, List, [], ◌∷◌, ◌++◌, length, get_or, slice_get, All, Option, Some, None, refl, sym, ap, subst, ◌∙◌, inl, inr, arith, append_assoc, length-append}
+use Rattle.std.proofs.Common.{◌≡◌, ℕ, zero, suc, ◌+◌, ◌<◌, ◌≤◌, ◌^◌, ◌-◌, Bool, true, false, cond, leb, eqb, List, [], ◌∷◌, ◌++◌, length, get_or, slice_get, All, Option, Some, None, refl, sym, ap, subst, ◌∙◌, inl, inr, arith, append_assoc, length-append, zero-add}
 use Rattle.std.proofs.lemmas.Bool.Decides.{nat_tests}
 use Rattle.std.proofs.lemmas.List.Elements.{recursion_from_All}
 use Rattle.std.proofs.lemmas.List.{get_or_append_left}
@@ -29,7 +29,7 @@ next_leaves : (xs : List Ty) (x : Ty) (ys : List Ty) → leaves_of (xs ++ x ∷ 
 next_leaves xs x ys =
     let before = leaf_counts xs in
     let own = leaf_count (λ k. get_or before k 0) x in
-    let long : length before ≡ length xs = counts_long [] xs in
+    let long : length before ≡ length xs = counts_long [] xs ∙ zero-add (length xs) in
     ap (λ counts. get_or counts (length xs) 0) (counts_append [] xs (x ∷ ys))
     ∙ counts_keep (before ++ own ∷ []) ys (length xs) (rw (length-append before (own ∷ [])) (omega (arith, long)))
     ∙ ap (λ n. get_or (before ++ own ∷ []) n 0) (sym long) ∙ get_or-append_seam before own [] 0
