@@ -1,5 +1,5 @@
 -- The lines of a program's text are taken one after another, and make the program.
-use Rattle.std.proofs.Common.{◌≡◌, ℕ, zero, suc, ◌+◌, ◌<◌, ◌≤◌, ◌^◌, Bool, true, false, ◌&&◌, cond, ltb, nat_lt, lit<, lit≤, IsTrue, List, [], ◌∷◌, ◌++◌, map, take, drop, length, Option, Some, None, refl, sym, ap, subst, ◌∙◌, arith, append_assoc, append-nil, length-append, zero-add}
+use Rattle.std.proofs.Common.{◌≡◌, ℕ, zero, suc, ◌+◌, ◌<◌, ◌≤◌, ◌^◌, Bool, true, false, ◌&&◌, cond, not, ltb, nat_lt, lit<, lit≤, IsTrue, List, [], ◌∷◌, ◌++◌, map, take, drop, length, Option, Some, None, refl, sym, ap, subst, ◌∙◌, arith, append_assoc, append-nil, length-append, zero-add}
 use Rattle.std.proofs.lemmas.Bool.{lt-ltb}
 use Rattle.std.proofs.lemmas.List.{map-append}
 use Rattle.std.proofs.lemmas.Slice.Eq.{bytes_eq-Decides}
@@ -223,4 +223,219 @@ globals_run (new ∷ more) p ts gs g f n early e low good =
             (ap (run begun) (map-append line_text (init_lines n new 0 new.inits) (global_lines (n + 1) more)) ∙ behind);
         early = next_ones.early;
         are = next_ones.are ∙ append_assoc all (new ∷ []) more;
+    }
+
+-- functions
+abbrev function_of : List ℕ → Option ℕ → ℕ → List ℕ → List Command → Function
+function_of n r k vs cs = record { name = n; result = r; params = k; vars = vs; commands = cs }
+
+function_same : (a x : List ℕ) (b y : Option ℕ) (c z : ℕ) → a ≡ x → b ≡ y → c ≡ z → function_of a b c [] [] ≡ function_of x y z [] []
+function_same a x b y c z e f g = ap (λ n. function_of n b c [] []) e ∙ ap (λ r. function_of x r c [] []) f ∙ ap (λ k. function_of x y k [] []) g
+
+function_taken : (p : Phase) (ts : List Ty) (gs : List GlobalObject) (g : GlobalObject) (fs : List Function) (f new : Function) (inner : List ℕ) → function_from inner ≡ new → nat_lt (length fs) (2 ^ 32) ≡ true → is_function_name new.name ≡ true
+    → with_function (draft p ts gs g fs f) inner (line_text (function_line (length fs) new)) ≡ Some (draft phase.Variables ts (globals_of p gs g) empty_global fs new)
+function_taken p ts gs g fs f new inner is few named =
+    let line = line_text (function_line (length fs) new) in
+    let P : Function → Type 0 = λ k. taken_if (nat_lt (length fs) (2 ^ 32) && is_function_name k.name) line (line_text (function_line (length fs) k)) (draft phase.Variables ts (globals_of p gs g) empty_global fs k) ≡ Some (draft phase.Variables ts (globals_of p gs g) empty_global fs new) in
+    subst P (sym is) (taken_so (nat_lt (length fs) (2 ^ 32) && is_function_name new.name) line (draft phase.Variables ts (globals_of p gs g) empty_global fs new) (both_hold (nat_lt (length fs) (2 ^ 32)) (is_function_name new.name) few named))
+
+function_read : (n : ℕ) (bytes : List ℕ) (r : Option ℕ) (k : ℕ) → n < 2 ^ 32 → IsTrue (is_name bytes) → ArgumentFits (result_type r) → k < 2 ^ 32
+    → function_from (arguments_text (number n ∷ name bytes ∷ result_type r ∷ number k ∷ [])) ≡ function_of bytes r k [] []
+function_read n bytes r k low named fits few =
+    function_same _ bytes _ r _ k
+    (at_second (λ s. s) (number n) (name bytes) (result_type r ∷ number k ∷ []) bytes low named refl)
+    (at_third result_type_in (number n) (name bytes) (result_type r) (number k ∷ []) r low named fits (result_type_again r fits))
+    (at_fourth number_in (number n) (name bytes) (result_type r) (number k) [] k low named fits few (number_again k few))
+
+-- the next line is that of a function, wherever one may begin
+function_begins : (p : Phase) (ts : List Ty) (gs : List GlobalObject) (g : GlobalObject) (fs : List Function) (f : Function) (arguments : List Argument) → is_whole p ≡ true → AllByRecursion ArgumentFits arguments
+    → next (draft p ts gs g fs f) (row_text (row word.Function arguments)) ≡ with_function (draft p ts gs g fs f) (arguments_text arguments) (row_text (row word.Function arguments))
+function_begins phase.Types ts gs g fs f arguments whole fits = form_next (draft phase.Types ts gs g fs f) word.Function arguments fits
+function_begins phase.Globals ts gs g fs f arguments whole fits = form_next (draft phase.Globals ts gs g fs f) word.Function arguments fits
+function_begins phase.Functions ts gs g fs f arguments whole fits = form_next (draft phase.Functions ts gs g fs f) word.Function arguments fits
+function_begins phase.Start ts gs g fs f arguments whole fits = cc
+function_begins phase.Second ts gs g fs f arguments whole fits = cc
+function_begins phase.Variables ts gs g fs f arguments whole fits = cc
+function_begins phase.Commands ts gs g fs f arguments whole fits = cc
+
+function_one : (p : Phase) (ts : List Ty) (gs : List GlobalObject) (g : GlobalObject) (fs : List Function) (f new : Function) (n : ℕ) → is_whole p ≡ true → n ≡ length fs → n < 2 ^ 32 → GoodFunction new
+    → next (draft p ts gs g fs f) (line_text (function_line n new)) ≡ Some (draft phase.Variables ts (globals_of p gs g) empty_global fs (function_of new.name new.result new.params [] []))
+function_one p ts gs g fs f new n whole e low good =
+    let args = number n ∷ name new.name ∷ result_type new.result ∷ number new.params ∷ [] in
+    let head = function_of new.name new.result new.params [] [] in
+    let named = (both_parts (is_name new.name) (not (is_keyword new.name)) good.named).0 in
+    function_begins p ts gs g fs f args whole (low, (named, (good.fits.result, (good.fits.params, tt))))
+    ∙ ap (λ k. with_function (draft p ts gs g fs f) (arguments_text args) (line_text (function_line k head))) e
+    ∙ function_taken p ts gs g fs f head (arguments_text args) (function_read n new.name new.result new.params low named good.fits.result good.fits.params)
+      (lt-ltb (length fs) (2 ^ 32) (omega (arith, low, e))) good.named
+
+variable_taken : (ts : List Ty) (gs : List GlobalObject) (g : GlobalObject) (fs : List Function) (a : List ℕ) (r : Option ℕ) (k : ℕ) (vars : List ℕ) (inner : List ℕ) (ty : ℕ) → number_in (first (rest inner)) ≡ ty → nat_lt (length vars) (2 ^ 32) ≡ true
+    → with_variable (draft phase.Variables ts gs g fs (function_of a r k vars [])) inner (row_text (row word.Var (number (length vars) ∷ number ty ∷ []))) ≡ Some (draft phase.Variables ts gs g fs (function_of a r k (vars ++ ty ∷ []) []))
+variable_taken ts gs g fs a r k vars inner ty is few =
+    let line = row_text (row word.Var (number (length vars) ∷ number ty ∷ [])) in
+    let P : ℕ → Type 0 = λ t. taken_if (nat_lt (length vars) (2 ^ 32)) line (row_text (row word.Var (number (length vars) ∷ number t ∷ []))) (draft phase.Variables ts gs g fs (function_of a r k (vars ++ t ∷ []) [])) ≡ Some (draft phase.Variables ts gs g fs (function_of a r k (vars ++ ty ∷ []) [])) in
+    subst P (sym is) (taken_so (nat_lt (length vars) (2 ^ 32)) line (draft phase.Variables ts gs g fs (function_of a r k (vars ++ ty ∷ []) [])) few)
+
+vars_run : (more vars : List ℕ) (ts : List Ty) (gs : List GlobalObject) (g : GlobalObject) (fs : List Function) (a : List ℕ) (r : Option ℕ) (k : ℕ) (f : Function) (n : ℕ) → n ≡ length vars → n + length more ≤ 2 ^ 32 → AllByRecursion (λ ty. ty < 2 ^ 32) more
+    → run (draft phase.Variables ts gs g fs (function_of a r k vars [])) (map line_text (var_lines f n more)) ≡ Some (draft phase.Variables ts gs g fs (function_of a r k (vars ++ more) []))
+vars_run [] vars ts gs g fs a r k f n e low fits = ap (λ xs. Some (draft phase.Variables ts gs g fs (function_of a r k xs []))) (sym (append-nil vars))
+vars_run (ty ∷ more) vars ts gs g fs a r k f n e low fits =
+    let args = number n ∷ number ty ∷ [] in
+    let d = draft phase.Variables ts gs g fs (function_of a r k vars []) in
+    let small : n < 2 ^ 32 = omega (arith, low) in
+    let long : n + 1 ≡ length (vars ++ ty ∷ []) = omega (arith, length-append vars (ty ∷ []), e) in
+    one_run (row_text (row word.Var args)) (map line_text (var_lines f (n + 1) more)) d
+    (draft phase.Variables ts gs g fs (function_of a r k (vars ++ ty ∷ []) [])) (draft phase.Variables ts gs g fs (function_of a r k (vars ++ ty ∷ more) []))
+    (form_next d word.Var args (small, (fits.0, tt))
+    ∙ ap (λ m. with_variable d (arguments_text args) (row_text (row word.Var (number m ∷ number ty ∷ [])))) e
+    ∙ variable_taken ts gs g fs a r k vars (arguments_text args) ty (at_second number_in (number n) (number ty) [] ty small fits.0 (number_again ty fits.0)) (lt-ltb (length vars) (2 ^ 32) (omega (arith, small, e))))
+    (vars_run more (vars ++ ty ∷ []) ts gs g fs a r k f (n + 1) long (omega (arith, low)) fits.1
+    ∙ ap (λ xs. Some (draft phase.Variables ts gs g fs (function_of a r k xs []))) (append_assoc vars (ty ∷ []) more))
+
+begin_one : (ts : List Ty) (gs : List GlobalObject) (g : GlobalObject) (fs : List Function) (a : List ℕ) (r : Option ℕ) (k : ℕ) (vars : List ℕ)
+    → next (draft phase.Variables ts gs g fs (function_of a r k vars [])) (line_text begin_line) ≡ Some (draft phase.Commands ts gs g fs (function_of a r k vars []))
+begin_one ts gs g fs a r k vars =
+    form_next (draft phase.Variables ts gs g fs (function_of a r k vars [])) word.Begin [] tt
+    ∙ taken_so true (line_text begin_line) (draft phase.Commands ts gs g fs (function_of a r k vars [])) refl
+
+end_one : (ts : List Ty) (gs : List GlobalObject) (g : GlobalObject) (fs : List Function) (f : Function)
+    → next (draft phase.Commands ts gs g fs f) (line_text end_line) ≡ Some (draft phase.Functions ts gs g (fs ++ f ∷ []) empty_function)
+end_one ts gs g fs f =
+    form_next (draft phase.Commands ts gs g fs f) word.End [] tt
+    ∙ taken_so true (line_text end_line) (draft phase.Functions ts gs g (fs ++ f ∷ []) empty_function) refl
+
+-- the word of a command isn't END
+no_end : (c : Command) → is_word (command_row c).word word.End ≡ false
+no_end (command.Move x y) = refl
+no_end (command.Cast x y) = refl
+no_end (command.Add x y z) = refl
+no_end (command.Sub x y z) = refl
+no_end (command.Mul x y z) = refl
+no_end (command.Div x y z) = refl
+no_end (command.Rem x y z) = refl
+no_end (command.And x y z) = refl
+no_end (command.Or x y z) = refl
+no_end (command.Xor x y z) = refl
+no_end (command.Shl x y z) = refl
+no_end (command.Shr x y z) = refl
+no_end (command.Not x y) = refl
+no_end (command.Lt x y z) = refl
+no_end (command.Le x y z) = refl
+no_end (command.Eq x y z) = refl
+no_end (command.Ne x y z) = refl
+no_end (command.Local x y z) = refl
+no_end (command.GlobalA x y z) = refl
+no_end (command.Member x y z) = refl
+no_end (command.Step x y z) = refl
+no_end (command.Back x y z) = refl
+no_end (command.Diff x y z) = refl
+no_end (command.Load x y) = refl
+no_end (command.Store x y) = refl
+no_end (command.Copy x y) = refl
+no_end (command.Kill x) = refl
+no_end (command.Alloc x y) = refl
+no_end (command.Calloc x y) = refl
+no_end (command.Free x) = refl
+no_end (command.Char x y) = refl
+no_end (command.Dec x y) = refl
+no_end (command.Hex x y) = refl
+no_end (command.Text x y) = refl
+no_end (command.Label x) = refl
+no_end (command.Jump x) = refl
+no_end (command.If x y) = refl
+no_end command.Turn = refl
+no_end (command.Table x y) = refl
+no_end (command.Saved x y) = refl
+no_end command.Checkpoint = refl
+no_end (command.Call r f os) = refl
+no_end (command.Return o) = refl
+no_end (command.Restore vs) = refl
+no_end (command.Push vs) = refl
+
+not_end : (b : Bool) (x y : Option Draft) → b ≡ false → cond b x y ≡ y
+not_end b x y e = rw e refl
+
+command_one : (ts : List Ty) (gs : List GlobalObject) (g : GlobalObject) (fs : List Function) (a : List ℕ) (r : Option ℕ) (k : ℕ) (vars : List ℕ) (commands : List Command) (c : Command) → RowFits (command_row c)
+    → next (draft phase.Commands ts gs g fs (function_of a r k vars commands)) (row_text (command_row c)) ≡ Some (draft phase.Commands ts gs g fs (function_of a r k vars (commands ++ c ∷ [])))
+command_one ts gs g fs a r k vars commands c fits =
+    let d = draft phase.Commands ts gs g fs (function_of a r k vars commands) in
+    let w = (command_row c).word in
+    let inner = arguments_text (command_row c).arguments in
+    let line = row_text (command_row c) in
+    form_next d w (command_row c).arguments fits
+    ∙ not_end (is_word w word.End) (with_end d line) (with_command d w inner line) (no_end c)
+    ∙ ap (λ o. with_some_command d o line) (command_again c fits)
+    ∙ taken_so true line (draft phase.Commands ts gs g fs (function_of a r k vars (commands ++ c ∷ []))) refl
+
+commands_run : (more commands : List Command) (ts : List Ty) (gs : List GlobalObject) (g : GlobalObject) (fs : List Function) (a : List ℕ) (r : Option ℕ) (k : ℕ) (vars : List ℕ) (f : Function) (n : ℕ) → AllByRecursion (λ c. RowFits (command_row c)) more
+    → run (draft phase.Commands ts gs g fs (function_of a r k vars commands)) (map line_text (command_lines f n more)) ≡ Some (draft phase.Functions ts gs g (fs ++ function_of a r k vars (commands ++ more) ∷ []) empty_function)
+commands_run [] commands ts gs g fs a r k vars f n fits =
+    one_run (line_text end_line) [] (draft phase.Commands ts gs g fs (function_of a r k vars commands)) (draft phase.Functions ts gs g (fs ++ function_of a r k vars commands ∷ []) empty_function) _
+    (end_one ts gs g fs (function_of a r k vars commands)) (ap (λ xs. Some (draft phase.Functions ts gs g (fs ++ function_of a r k vars xs ∷ []) empty_function)) (sym (append-nil commands)))
+commands_run (c ∷ more) commands ts gs g fs a r k vars f n fits =
+    one_run (row_text (command_row c)) (map line_text (command_lines f (n + 1) more)) (draft phase.Commands ts gs g fs (function_of a r k vars commands))
+    (draft phase.Commands ts gs g fs (function_of a r k vars (commands ++ c ∷ []))) (draft phase.Functions ts gs g (fs ++ function_of a r k vars (commands ++ c ∷ more) ∷ []) empty_function)
+    (command_one ts gs g fs a r k vars commands c fits.0)
+    (commands_run more (commands ++ c ∷ []) ts gs g fs a r k vars f (n + 1) fits.1
+    ∙ ap (λ xs. Some (draft phase.Functions ts gs g (fs ++ function_of a r k vars xs ∷ []) empty_function)) (append_assoc commands (c ∷ []) more))
+
+-- one function, from its first line to END
+one_function : (p : Phase) (ts : List Ty) (gs : List GlobalObject) (g : GlobalObject) (fs : List Function) (f new : Function) (n : ℕ) → is_whole p ≡ true → n ≡ length fs → n < 2 ^ 32 → GoodFunction new
+    → run (draft p ts gs g fs f) (line_text (function_line n new) ∷ (map line_text (var_lines new 0 new.vars) ++ line_text begin_line ∷ map line_text (command_lines new 0 new.commands)))
+    ≡ Some (draft phase.Functions ts (globals_of p gs g) empty_global (fs ++ new ∷ []) empty_function)
+one_function p ts gs g fs f new n whole e low good =
+    let all = globals_of p gs g in
+    let v = draft phase.Variables ts all empty_global fs (function_of new.name new.result new.params [] []) in
+    let w = draft phase.Variables ts all empty_global fs (function_of new.name new.result new.params new.vars []) in
+    let c = draft phase.Commands ts all empty_global fs (function_of new.name new.result new.params new.vars []) in
+    let z = draft phase.Functions ts all empty_global (fs ++ new ∷ []) empty_function in
+    let vars = map line_text (var_lines new 0 new.vars) in
+    let commands = map line_text (command_lines new 0 new.commands) in
+    one_run (line_text (function_line n new)) (vars ++ line_text begin_line ∷ commands) (draft p ts gs g fs f) v z
+    (function_one p ts gs g fs f new n whole e low good)
+    (then_run vars (line_text begin_line ∷ commands) v w z
+    (vars_run new.vars [] ts all empty_global fs new.name new.result new.params new 0 refl (omega (arith, good.fits.count)) good.fits.vars)
+    (one_run (line_text begin_line) commands w c z (begin_one ts all empty_global fs new.name new.result new.params new.vars)
+    (commands_run new.commands [] ts all empty_global fs new.name new.result new.params new.vars new 0 good.fits.commands)))
+
+-- what is reached behind functions
+pub record AtFunctions (d : Draft) (lines : List (List ℕ)) (ts : List Ty) (all : List GlobalObject) (fs : List Function) : Type 0 where
+  pub p : Phase
+  pub gs : List GlobalObject
+  pub g : GlobalObject
+  pub f : Function
+  pub made : run d lines ≡ Some (draft p ts gs g fs f)
+  pub whole : is_whole p ≡ true
+  pub are : globals_of p gs g ≡ all
+
+function_lines_are : (n : ℕ) (new : Function) (more : List Function) → map line_text (function_lines n (new ∷ more))
+    ≡ (line_text (function_line n new) ∷ (map line_text (var_lines new 0 new.vars) ++ line_text begin_line ∷ map line_text (command_lines new 0 new.commands))) ++ map line_text (function_lines (n + 1) more)
+function_lines_are n new more =
+    let others = function_lines (n + 1) more in
+    ap (λ t. line_text (function_line n new) ∷ t)
+    (map-append line_text (var_lines new 0 new.vars) (begin_line ∷ (command_lines new 0 new.commands ++ others))
+    ∙ ap (λ t. map line_text (var_lines new 0 new.vars) ++ line_text begin_line ∷ t) (map-append line_text (command_lines new 0 new.commands) others)
+    ∙ sym (append_assoc (map line_text (var_lines new 0 new.vars)) (line_text begin_line ∷ map line_text (command_lines new 0 new.commands)) (map line_text others)))
+
+pub functions_run : (more : List Function) (p : Phase) (ts : List Ty) (gs : List GlobalObject) (g : GlobalObject) (fs : List Function) (f : Function) (n : ℕ) → is_whole p ≡ true → n ≡ length fs → n + length more ≤ 2 ^ 32
+    → AllByRecursion GoodFunction more → AtFunctions (draft p ts gs g fs f) (map line_text (function_lines n more)) ts (globals_of p gs g) (fs ++ more)
+functions_run [] p ts gs g fs f n whole e low good =
+    record { p = p; gs = gs; g = g; f = f; made = ap (λ xs. Some (draft p ts gs g xs f)) (sym (append-nil fs)); whole = whole; are = refl }
+functions_run (new ∷ more) p ts gs g fs f n whole e low good =
+    let all = globals_of p gs g in
+    let small : n < 2 ^ 32 = omega (arith, low) in
+    let long : n + 1 ≡ length (fs ++ new ∷ []) = omega (arith, length-append fs (new ∷ []), e) in
+    let others = functions_run more phase.Functions ts all empty_global (fs ++ new ∷ []) empty_function (n + 1) refl long (omega (arith, low)) good.1 in
+    let own = line_text (function_line n new) ∷ (map line_text (var_lines new 0 new.vars) ++ line_text begin_line ∷ map line_text (command_lines new 0 new.commands)) in
+    record {
+        p = others.p;
+        gs = others.gs;
+        g = others.g;
+        f = others.f;
+        made = ap (run (draft p ts gs g fs f)) (function_lines_are n new more)
+            ∙ then_run own (map line_text (function_lines (n + 1) more)) (draft p ts gs g fs f) (draft phase.Functions ts all empty_global (fs ++ new ∷ []) empty_function) (draft others.p ts others.gs others.g ((fs ++ new ∷ []) ++ more) others.f)
+              (one_function p ts gs g fs f new n whole e small good.0) others.made
+            ∙ ap (λ xs. Some (draft others.p ts others.gs others.g xs others.f)) (append_assoc fs (new ∷ []) more);
+        whole = others.whole;
+        are = others.are;
     }
