@@ -51,7 +51,7 @@ taken_by b x e = rw e refl
 both_hold : (a b : Bool) → a ≡ true → b ≡ true → (a && b) ≡ true
 both_hold a b h k = rw (h, k) refl
 
-taken_so : {X : Type 0} (c : Bool) (line : List ℕ) (x : X) → c ≡ true → taken_if c line line x ≡ Some x
+pub taken_so : {X : Type 0} (c : Bool) (line : List ℕ) (x : X) → c ≡ true → taken_if c line line x ≡ Some x
 taken_so c line x h = taken_by (c && bytes_eq line line) x (both_hold c (bytes_eq line line) h ((bytes_eq-Decides line line).1 refl))
 
 form_next : (d : Draft) (w : Word) (arguments : List Argument) → AllByRecursion ArgumentFits arguments

@@ -24,3 +24,5 @@ pub mod Sound
 pub mod TypesRun
 -- the lines of a program are taken
 pub mod Complete
+-- what was read begins a program's text
+pub mod Parsed

@@ -1,6 +1,7 @@
 -- How far a text was read, line by line.
 use Rattle.std.proofs.Common.{◌≡◌, ℕ, ◌+◌, Bool, true, false, eqb, List, [], ◌∷◌, ◌++◌, length, Option, Some, None, refl, sym, ap, subst, ◌∙◌, arith, append_assoc, append-nil, length-append}
 use Rattle.std.specs.List.{concat, AllByRecursion}
+use Rattle.porch_types.specs.Leaves.{IsTypes}
 use Rattle.porch_flat_text.specs.declared.draft.Draft.{Draft}
 use Rattle.porch_flat_text.specs.FirstWrong.{IsLine}
 use Rattle.porch_flat_text.specs.inside.Cuts.{line_of}
@@ -40,12 +41,12 @@ refused_next : (o : Option Draft) (taken : Bool) (new : Draft) → taken ≡ fal
 refused_next None taken new false_so t = refl
 refused_next (Some d) taken new false_so t = let true_so : taken ≡ true = t.0 in cc
 
-pub begun : (text : List ℕ) → HasRead text text 1 empty_draft
-begun text = record { lines = []; split = refl; whole = tt; number = refl; made = refl }
+pub begun : (text : List ℕ) (d : Draft) → d ≡ empty_draft → IsTypes d.types → HasRead text text 1 d
+begun text d e types = record { lines = []; split = refl; whole = tt; number = refl; made = ap (λ x. Some x) (sym e); types = types }
 
 pub goes_on : (text rest line more : List ℕ) (n : ℕ) (d e : Draft) (taken : Bool)
-    → HasRead text rest n d → Some (line, more) ≡ line_of rest → taken ≡ true → Taken (next d line) taken e → HasRead text more (n + 1) e
-goes_on text rest line more n d e taken read found true_so t =
+    → HasRead text rest n d → Some (line, more) ≡ line_of rest → taken ≡ true → Taken (next d line) taken e → IsTypes e.types → HasRead text more (n + 1) e
+goes_on text rest line more n d e taken read found true_so t types =
     let l = line_found rest line more (sym found) in
     record {
         lines = read.lines ++ line ∷ [];
@@ -54,6 +55,7 @@ goes_on text rest line more n d e taken read found true_so t =
         whole = all_push IsLine read.lines line read.whole l.0;
         number = ap (λ k. k + 1) read.number ∙ ap (λ k. k + 1) (sym (length-append read.lines (line ∷ [])));
         made = run_push read.lines line empty_draft d read.made ∙ taken_next (next d line) taken e true_so t;
+        types = types;
     }
 
 pub stops : (text rest line more : List ℕ) (n : ℕ) (d e : Draft) (taken : Bool)

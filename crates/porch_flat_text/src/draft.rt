@@ -3,7 +3,7 @@
 ghost use Rattle.std.specs.Prelude.{◌≡◌, ◌<◌, ◌≤◌, ◌^◌, ◌++◌, ◌∷◌, ◌&&◌, ◌||◌, [], length, OnOk, IfOk, IsTrue};
 ghost use Rattle.std.specs.List.{list_all, list_any};
 ghost use Rattle.std.specs.Str.{bytes_eq};
-ghost use Rattle.porch_types.specs.Leaves.{kind_types};
+ghost use Rattle.porch_types.specs.Leaves.{IsTypes};
 ghost use Rattle.porch_flat.specs.whole.Flats.{is_letter, is_digit, is_name, is_keyword, is_function_name, is_said};
 ghost use Rattle.porch_flat.specs.whole.Lines.{function_line};
 ghost use Rattle.porch_flat_text.specs.Text.{row, row_text, type_row, init_row, line_text, number};
@@ -666,6 +666,13 @@ pub(crate) fn start(alloc: Global) -> Result<Draft, AllocError>
         functions: Items::new(alloc),
         function: empty_function(alloc),
     })
+}
+
+/// The number of types. That it can be told shows that they are a list of types.
+pub(crate) fn type_count(draft: &Draft) -> usize
+    ensures { IsTypes draft.now.types }
+{
+    draft.types.len()
 }
 
 /// Whether a program's text may end here.

@@ -10,7 +10,7 @@ ghost use Rattle.porch_flat_text.specs.inside.Drafts.{empty_draft, is_whole};
 ghost use Rattle.porch_flat_text.specs.declared.parse.FlatFault.TheVariants.{NoMemory};
 
 use crate::cut::first_line;
-use crate::draft::{Draft, into_flat, is_whole, start, take_line};
+use crate::draft::{Draft, into_flat, is_whole, start, take_line, type_count};
 use porch_flat::whole::Flat;
 use std::alloc::{AllocError, Global};
 use thiserror::Error;
@@ -65,12 +65,14 @@ fn read_lines(alloc: Global, draft: &mut Draft, text: &[u8]) -> Result<(u64, boo
     let mut scratch = Vec::new(alloc);
     let mut rest = text;
     let mut line = 1u64;
+    let _ = type_count(draft);
     while let Some((first, behind)) = first_line(rest) {
         if !take_line(alloc, draft, &mut scratch, first, behind)? {
             return Err(FlatFault::FlatSyntax { line });
         }
         rest = behind;
         line += 1;
+        let _ = type_count(draft);
     }
     Ok((line, rest.is_empty()))
 }

@@ -1,6 +1,7 @@
 -- How far a text was read.
 use Rattle.std.specs.Prelude.{◌≡◌, ◌⊎◌, ◌&&◌, true, false, ℕ, ◌+◌, ◌==◌, Bool, List, ◌++◌, length, Option, Some, None, ⊤}
 use Rattle.std.specs.List.{concat, AllByRecursion}
+use Rattle.porch_types.specs.Leaves.{IsTypes}
 use Rattle.porch_flat.specs.declared.whole.Flat.{Flat}
 use Rattle.porch_flat_text.specs.declared.draft.Draft.{Draft}
 use Rattle.porch_flat_text.specs.declared.parse.FlatFault.{FlatFault}
@@ -16,6 +17,7 @@ pub record HasRead (text rest : List ℕ) (n : ℕ) (d : Draft) : Type 0 where
   pub whole : AllByRecursion IsLine lines
   pub number : n ≡ length lines + 1
   pub made : run empty_draft lines ≡ Some d
+  pub types : IsTypes d.types
 
 -- all whole lines were read
 pub record IsEnded (text : List ℕ) (n : ℕ) (ended : Bool) (d : Draft) : Type 0 where
