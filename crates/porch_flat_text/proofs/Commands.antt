@@ -108,7 +108,7 @@ of_call : (r : Option ℕ) (f : ℕ) (os : List Operand) → AllByRecursion Argu
     → command_from word.Call (arguments_text (target r ∷ number f ∷ map operand os)) ≡ Some (command.Call r f os)
 of_call r f os fits =
     let behind : rest (rest (arguments_text (target r ∷ number f ∷ map operand os))) ≡ arguments_text (map operand os) =
-        ap rest (rest_written (target r) (number f ∷ map operand os) fits.0) ∙ rest_written (number f) (map operand os) fits.1.0 in
+    ap rest (rest_written (target r) (number f ∷ map operand os) fits.0) ∙ rest_written (number f) (map operand os) fits.1.0 in
     made_three command.Call _ _ _ r f os
     (at_first target_in (target r) (number f ∷ map operand os) r fits.0 (target_again r fits.0))
     (at_second number_in (target r) (number f) (map operand os) f fits.0 fits.1.0 (number_again f fits.1.0))

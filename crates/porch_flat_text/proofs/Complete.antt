@@ -68,7 +68,7 @@ type_taken ts g f w inner ty is few fault =
     let line = row_text (type_row (length ts) ty) in
     let P : Ty → Type 0 = λ t. taken_if (nat_lt (length ts) (2 ^ 31) && is_none (add_fault ts t)) line (row_text (type_row (length ts) t)) (draft phase.Types (ts ++ t ∷ []) [] g [] f) ≡ Some (draft phase.Types (ts ++ ty ∷ []) [] g [] f) in
     subst P (sym is) (taken_so (nat_lt (length ts) (2 ^ 31) && is_none (add_fault ts ty)) line (draft phase.Types (ts ++ ty ∷ []) [] g [] f)
-        (both_hold (nat_lt (length ts) (2 ^ 31)) (is_none (add_fault ts ty)) few (ap is_none fault)))
+    (both_hold (nat_lt (length ts) (2 ^ 31)) (is_none (add_fault ts ty)) few (ap is_none fault)))
 
 type_one : (ts : List Ty) (g : GlobalObject) (f : Function) (ty : Ty) (n : ℕ) → n ≡ length ts → n < 2 ^ 32 → IsTrue (is_built ty) → TypeFits ty → nat_lt (length ts) (2 ^ 31) ≡ true → add_fault ts ty ≡ None
     → next_form (draft phase.Types ts [] g [] f) (row_text (type_row n ty)) ≡ Some (draft phase.Types (ts ++ ty ∷ []) [] g [] f)
@@ -78,7 +78,7 @@ type_one ts g f (Pointer to) n e low built fits few fault =
     form_next d word.Pointer (number n ∷ number to ∷ []) (low, fits.1)
     ∙ ap (λ k. with_type d word.Pointer (arguments_text (number n ∷ number to ∷ [])) (row_text (type_row k (Pointer to)))) e
     ∙ type_taken ts g f word.Pointer (arguments_text (number n ∷ number to ∷ [])) (Pointer to)
-      (ap Pointer (at_second number_in (number n) (number to) [] to low fits.1.0 (number_again to fits.1.0))) few fault
+    (ap Pointer (at_second number_in (number n) (number to) [] to low fits.1.0 (number_again to fits.1.0))) few fault
 type_one ts g f (Array of count) n e low built fits few fault =
     let d = draft phase.Types ts [] g [] f in
     let args = number n ∷ number of ∷ number count ∷ [] in
@@ -93,7 +93,7 @@ type_one ts g f (Struct members) n e low built fits few fault =
     form_next d word.Struct args (low, fits.1)
     ∙ ap (λ k. with_type d word.Struct (arguments_text args) (row_text (type_row k (Struct members)))) e
     ∙ type_taken ts g f word.Struct (arguments_text args) (Struct members)
-      (ap (λ s. Struct (each_in number_in (length s) s)) (rest_written (number n) (map number members) low) ∙ ap Struct (list_again number_in number number_again members fits.1)) few fault
+    (ap (λ s. Struct (each_in number_in (length s) s)) (rest_written (number n) (map number members) low) ∙ ap Struct (list_again number_in number number_again members fits.1)) few fault
 
 both_parts : (a b : Bool) → (a && b) ≡ true → (a ≡ true) × (b ≡ true)
 both_parts true b h = (refl, h)
@@ -133,14 +133,14 @@ global_one phase.Types ts gs g fs f n ty early e low fits =
     form_next d word.Global args (low, (fits, tt))
     ∙ ap (λ k. with_global d (arguments_text args) (row_text (row word.Global (number k ∷ number ty ∷ [])))) e
     ∙ global_taken phase.Types ts gs g fs f (arguments_text args) ty (at_second number_in (number n) (number ty) [] ty low fits (number_again ty fits))
-      (lt-ltb (length (globals_of phase.Types gs g)) (2 ^ 32) (omega (arith, low, e)))
+    (lt-ltb (length (globals_of phase.Types gs g)) (2 ^ 32) (omega (arith, low, e)))
 global_one phase.Globals ts gs g fs f n ty early e low fits =
     let d = draft phase.Globals ts gs g fs f in
     let args = number n ∷ number ty ∷ [] in
     form_next d word.Global args (low, (fits, tt))
     ∙ ap (λ k. with_global d (arguments_text args) (row_text (row word.Global (number k ∷ number ty ∷ [])))) e
     ∙ global_taken phase.Globals ts gs g fs f (arguments_text args) ty (at_second number_in (number n) (number ty) [] ty low fits (number_again ty fits))
-      (lt-ltb (length (globals_of phase.Globals gs g)) (2 ^ 32) (omega (arith, low, e)))
+    (lt-ltb (length (globals_of phase.Globals gs g)) (2 ^ 32) (omega (arith, low, e)))
 global_one phase.Start ts gs g fs f n ty early e low fits = cc
 global_one phase.Second ts gs g fs f n ty early e low fits = cc
 global_one phase.Functions ts gs g fs f n ty early e low fits = cc
@@ -213,16 +213,16 @@ globals_run (new ∷ more) p ts gs g f n early e low good =
     let inits = map line_text (init_lines n new 0 new.inits) in
     let others = map line_text (global_lines (n + 1) more) in
     let behind : run begun (inits ++ others) ≡ Some (draft next_ones.p ts next_ones.gs next_ones.g [] f) =
-        then_run inits others begun filled _ (inits_run new.inits [] ts all new.ty [] f n new 0 e small good.0.fits.inits good.0.said) next_ones.made in
+    then_run inits others begun filled _ (inits_run new.inits [] ts all new.ty [] f n new 0 e small good.0.fits.inits good.0.said) next_ones.made in
     record {
-        p = next_ones.p;
-        gs = next_ones.gs;
-        g = next_ones.g;
-        made = one_run (line_text (global_line n new)) (map line_text (init_lines n new 0 new.inits ++ global_lines (n + 1) more)) start begun (draft next_ones.p ts next_ones.gs next_ones.g [] f)
-            (global_one p ts gs g [] f n new.ty early e small good.0.fits.ty)
-            (ap (run begun) (map-append line_text (init_lines n new 0 new.inits) (global_lines (n + 1) more)) ∙ behind);
-        early = next_ones.early;
-        are = next_ones.are ∙ append_assoc all (new ∷ []) more;
+      p = next_ones.p;
+      gs = next_ones.gs;
+      g = next_ones.g;
+      made = one_run (line_text (global_line n new)) (map line_text (init_lines n new 0 new.inits ++ global_lines (n + 1) more)) start begun (draft next_ones.p ts next_ones.gs next_ones.g [] f)
+          (global_one p ts gs g [] f n new.ty early e small good.0.fits.ty)
+          (ap (run begun) (map-append line_text (init_lines n new 0 new.inits) (global_lines (n + 1) more)) ∙ behind);
+      early = next_ones.early;
+      are = next_ones.are ∙ append_assoc all (new ∷ []) more;
     }
 
 -- functions
@@ -267,7 +267,7 @@ function_one p ts gs g fs f new n whole e low good =
     function_begins p ts gs g fs f args whole (low, (named, (good.fits.result, (good.fits.params, tt))))
     ∙ ap (λ k. with_function (draft p ts gs g fs f) (arguments_text args) (line_text (function_line k head))) e
     ∙ function_taken p ts gs g fs f head (arguments_text args) (function_read n new.name new.result new.params low named good.fits.result good.fits.params)
-      (lt-ltb (length fs) (2 ^ 32) (omega (arith, low, e))) good.named
+    (lt-ltb (length fs) (2 ^ 32) (omega (arith, low, e))) good.named
 
 variable_taken : (ts : List Ty) (gs : List GlobalObject) (g : GlobalObject) (fs : List Function) (a : List ℕ) (r : Option ℕ) (k : ℕ) (vars : List ℕ) (inner : List ℕ) (ty : ℕ) → number_in (first (rest inner)) ≡ ty → nat_lt (length vars) (2 ^ 32) ≡ true
     → with_variable (draft phase.Variables ts gs g fs (function_of a r k vars [])) inner (row_text (row word.Var (number (length vars) ∷ number ty ∷ []))) ≡ Some (draft phase.Variables ts gs g fs (function_of a r k (vars ++ ty ∷ []) []))
@@ -428,14 +428,14 @@ functions_run (new ∷ more) p ts gs g fs f n whole e low good =
     let others = functions_run more phase.Functions ts all empty_global (fs ++ new ∷ []) empty_function (n + 1) refl long (omega (arith, low)) good.1 in
     let own = line_text (function_line n new) ∷ (map line_text (var_lines new 0 new.vars) ++ line_text begin_line ∷ map line_text (command_lines new 0 new.commands)) in
     record {
-        p = others.p;
-        gs = others.gs;
-        g = others.g;
-        f = others.f;
-        made = ap (run (draft p ts gs g fs f)) (function_lines_are n new more)
-            ∙ then_run own (map line_text (function_lines (n + 1) more)) (draft p ts gs g fs f) (draft phase.Functions ts all empty_global (fs ++ new ∷ []) empty_function) (draft others.p ts others.gs others.g ((fs ++ new ∷ []) ++ more) others.f)
-              (one_function p ts gs g fs f new n whole e small good.0) others.made
-            ∙ ap (λ xs. Some (draft others.p ts others.gs others.g xs others.f)) (append_assoc fs (new ∷ []) more);
-        whole = others.whole;
-        are = others.are;
+      p = others.p;
+      gs = others.gs;
+      g = others.g;
+      f = others.f;
+      made = ap (run (draft p ts gs g fs f)) (function_lines_are n new more)
+          ∙ then_run own (map line_text (function_lines (n + 1) more)) (draft p ts gs g fs f) (draft phase.Functions ts all empty_global (fs ++ new ∷ []) empty_function) (draft others.p ts others.gs others.g ((fs ++ new ∷ []) ++ more) others.f)
+          (one_function p ts gs g fs f new n whole e small good.0) others.made
+          ∙ ap (λ xs. Some (draft others.p ts others.gs others.g xs others.f)) (append_assoc fs (new ∷ []) more);
+      whole = others.whole;
+      are = others.are;
     }

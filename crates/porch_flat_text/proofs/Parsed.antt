@@ -1,6 +1,6 @@
 -- What was read of a text is the beginning of a program's text, and what isn't taken begins none.
 use Rattle.std.proofs.Common.{◌≡◌, ◌≢◌, ◌⊎◌, ⊎_elim, inl, inr, ℕ, zero, suc, ◌+◌, ◌<◌, ◌≤◌, ◌^◌, Bool, true, false, ◌&&◌, not, cond, eqb, lit<, lit≤, IsTrue, List, [], ◌∷◌, ◌++◌, map, take, drop, length, Option, Some, None, Result, Ok, Err, IfOk, IfErr, refl, sym, ap, subst, ◌∙◌, arith, append_assoc, append-nil, length-append, length-drop, zero-add, codes}
-use Rattle.std.proofs.lemmas.Bool.{eqb-false}
+use Rattle.std.proofs.lemmas.Bool.{eqb-true, eqb-false}
 use Rattle.std.proofs.lemmas.List.{map-append, take-append-drop}
 use Rattle.std.specs.List.{concat, flat_map, list_all, AllByRecursion}
 use Rattle.porch_types.specs.Leaves.{IsTypes, kind_types}
@@ -165,9 +165,10 @@ inits_lines n g place (init ∷ inits) low fits = (init_line_is n init low fits.
 globals_lines : (n : ℕ) (globals : List GlobalObject) → n + length globals ≤ 2 ^ 32 → AllByRecursion GoodGlobal globals → AreLines (global_lines n globals)
 globals_lines n [] low good = tt
 globals_lines n (g ∷ globals) low good =
-    let small : n < 2 ^ 32 = omega (arith, low) in
-    (form_line word.Global (number n ∷ number g.ty ∷ []) (small, (good.0.fits.ty, tt)),
-    all_append (λ l. IsLine (line_text l)) (init_lines n g 0 g.inits) (global_lines (n + 1) globals) (inits_lines n g 0 g.inits small good.0.fits.inits) (globals_lines (n + 1) globals (omega (arith, low)) good.1))
+    let small : n < 2 ^ 32 = omega (arith, low) in (
+      form_line word.Global (number n ∷ number g.ty ∷ []) (small, (good.0.fits.ty, tt)),
+      all_append (λ l. IsLine (line_text l)) (init_lines n g 0 g.inits) (global_lines (n + 1) globals) (inits_lines n g 0 g.inits small good.0.fits.inits) (globals_lines (n + 1) globals (omega (arith, low)) good.1),
+    )
 
 vars_lines : (f : Function) (n : ℕ) (vars : List ℕ) → n + length vars ≤ 2 ^ 32 → AllByRecursion (λ ty. ty < 2 ^ 32) vars → AreLines (var_lines f n vars)
 vars_lines f n [] low fits = tt
@@ -183,12 +184,14 @@ functions_lines n (f ∷ functions) low good =
     let small : n < 2 ^ 32 = omega (arith, low) in
     let fits = good.0.fits in
     let P : Line → Type 0 = λ l. IsLine (line_text l) in
-    let named = (both (is_name f.name) (not (is_keyword f.name)) good.0.named).0 in
-    (form_line word.Function (number n ∷ name f.name ∷ result_type f.result ∷ number f.params ∷ []) (small, (named, (fits.result, (fits.params, tt)))),
-    all_append P (var_lines f 0 f.vars) (begin_line ∷ (command_lines f 0 f.commands ++ function_lines (n + 1) functions))
-    (vars_lines f 0 f.vars (omega (arith, fits.count)) fits.vars)
-    (form_line word.Begin [] tt,
-    all_append P (command_lines f 0 f.commands) (function_lines (n + 1) functions) (commands_lines f 0 f.commands fits.commands) (functions_lines (n + 1) functions (omega (arith, low)) good.1)))
+    let named = (both (is_name f.name) (not (is_keyword f.name)) good.0.named).0 in (
+      form_line word.Function (number n ∷ name f.name ∷ result_type f.result ∷ number f.params ∷ []) (small, (named, (fits.result, (fits.params, tt)))),
+      all_append P (var_lines f 0 f.vars) (begin_line ∷ (command_lines f 0 f.commands ++ function_lines (n + 1) functions))
+          (vars_lines f 0 f.vars (omega (arith, fits.count)) fits.vars) (
+            form_line word.Begin [] tt,
+            all_append P (command_lines f 0 f.commands) (function_lines (n + 1) functions) (commands_lines f 0 f.commands fits.commands) (functions_lines (n + 1) functions (omega (arith, low)) good.1),
+          ),
+    )
 
 good_globals : (gs : List GlobalObject) → AllByRecursion GlobalFits gs → IsTrue (list_all (λ g. list_all is_said g.inits) gs) → AllByRecursion GoodGlobal gs
 good_globals [] fits said = tt
@@ -218,13 +221,18 @@ types_few types few = omega (arith, few, length-drop 8 types)
 
 pub texts_lines : (flat : Flat) → IsSayable flat → AllByRecursion IsLine (texts_of flat)
 texts_lines flat say =
-    let P : Line → Type 0 = λ l. IsLine (line_text l) in
-    (head_line, (second_line, map_all (lines_of flat)
-    (all_append P (type_lines 8 (drop 8 flat.types)) (global_lines 0 flat.globals ++ function_lines 0 flat.functions)
-    (types_lines 8 (drop 8 flat.types) (types_few flat.types say.form.types.few) say.form.built say.types)
-    (all_append P (global_lines 0 flat.globals) (function_lines 0 flat.functions)
-    (globals_lines 0 flat.globals (omega (arith, say.global_count)) (good_globals flat.globals say.globals say.form.values))
-    (functions_lines 0 flat.functions (omega (arith, say.function_count)) (good_functions flat.functions say.functions say.form.names))))))
+    let P : Line → Type 0 = λ l. IsLine (line_text l) in (
+      head_line,
+      (
+        second_line,
+        map_all (lines_of flat)
+            (all_append P (type_lines 8 (drop 8 flat.types)) (global_lines 0 flat.globals ++ function_lines 0 flat.functions)
+            (types_lines 8 (drop 8 flat.types) (types_few flat.types say.form.types.few) say.form.built say.types)
+            (all_append P (global_lines 0 flat.globals) (function_lines 0 flat.functions)
+            (globals_lines 0 flat.globals (omega (arith, say.global_count)) (good_globals flat.globals say.globals say.form.values))
+            (functions_lines 0 flat.functions (omega (arith, say.function_count)) (good_functions flat.functions say.functions say.form.names)))),
+      ),
+    )
 
 -- the lines of a program's text are taken, and make it
 early_whole : (p : Phase) → is_early p ≡ true → is_whole p ≡ true
@@ -272,23 +280,31 @@ run_whole flat say =
     let f = functions_run flat.functions g.p (kind_types ++ more) g.gs g.g [] empty_function 0 (early_whole g.p g.early) refl (omega (arith, say.function_count)) (good_functions flat.functions say.functions say.form.names) in
     let d4 = draft f.p (kind_types ++ more) f.gs f.g flat.functions f.f in
     let lines : map line_text (lines_of flat) ≡ types ++ (globals ++ functions) =
-        map-append line_text (type_lines 8 more) (global_lines 0 flat.globals ++ function_lines 0 flat.functions) ∙ ap (λ t. types ++ t) (map-append line_text (global_lines 0 flat.globals) (function_lines 0 flat.functions)) in
+    map-append line_text (type_lines 8 more) (global_lines 0 flat.globals ++ function_lines 0 flat.functions) ∙ ap (λ t. types ++ t) (map-append line_text (global_lines 0 flat.globals) (function_lines 0 flat.functions)) in
     let body : run d1 (types ++ (globals ++ functions)) ≡ Some d4 =
-        then_run types (globals ++ functions) d1 d2 d4 (types_run more kind_types empty_global empty_function 8 refl say.form.built say.types (subst IsTypes (sym all) say.form.types))
-        (then_run globals functions d2 d3 d4 g.made f.made) in
+    then_run types (globals ++ functions) d1 d2 d4 (types_run more kind_types empty_global empty_function 8 refl say.form.built say.types (subst IsTypes (sym all) say.form.types))
+    (then_run globals functions d2 d3 d4 g.made f.made) in
     record {
-        d = d4;
-        made = one_run first_head (second_head ∷ map line_text (lines_of flat)) empty_draft d0 d4 (taken_so true first_head d0 refl)
-            (one_run second_head (map line_text (lines_of flat)) d0 d1 d4 (taken_so true second_head d1 refl) (ap (run d1) lines ∙ body));
-        whole = f.whole;
-        same = program_same (kind_types ++ more) flat.types (globals_of f.p f.gs f.g) flat.globals (functions_of f.p flat.functions f.f) flat.functions all (f.are ∙ g.are) (whole_functions f.p flat.functions f.f f.whole);
+      d = d4;
+      made = one_run first_head (second_head ∷ map line_text (lines_of flat)) empty_draft d0 d4 (taken_so true first_head d0 refl)
+          (one_run second_head (map line_text (lines_of flat)) d0 d1 d4 (taken_so true second_head d1 refl) (ap (run d1) lines ∙ body));
+      whole = f.whole;
+      same = program_same (kind_types ++ more) flat.types (globals_of f.p f.gs f.g) flat.globals (functions_of f.p flat.functions f.f) flat.functions all (f.are ∙ g.are) (whole_functions f.p flat.functions f.f f.whole);
     }
 
 -- what was read is the beginning of a text
 good_start : Good empty_draft
 good_start = record {
-    order = (refl, refl, refl); eight = lit≤ tt; built = refl; type_fits = tt; globals = tt; global = record { fits = record { ty = lit< tt; inits = tt }; said = refl };
-    global_count = lit≤ tt; functions = tt; function = tt; function_count = lit≤ tt;
+  order = (refl, refl, refl);
+  eight = lit≤ tt;
+  built = refl;
+  type_fits = tt;
+  globals = tt;
+  global = record { fits = record { ty = lit< tt; inits = tt }; said = refl };
+  global_count = lit≤ tt;
+  functions = tt;
+  function = tt;
+  function_count = lit≤ tt;
 }
 
 pub record Read (d : Draft) (lines : List (List ℕ)) (e : Draft) : Type 0 where
@@ -348,12 +364,12 @@ sayable d good types =
     let gs = globals_all d.phase d.globals d.global good.globals good.global in
     let fs = functions_all d.phase d.functions d.function good.functions good.function in
     record {
-        form = record { types = types; built = good.built; names = functions_named (functions_of d.phase d.functions d.function) fs; values = globals_said (globals_of d.phase d.globals d.global) gs };
-        types = good.type_fits;
-        globals = globals_fit (globals_of d.phase d.globals d.global) gs;
-        global_count = good.global_count;
-        functions = functions_fit (functions_of d.phase d.functions d.function) fs;
-        function_count = good.function_count;
+      form = record { types = types; built = good.built; names = functions_named (functions_of d.phase d.functions d.function) fs; values = globals_said (globals_of d.phase d.globals d.global) gs };
+      types = good.type_fits;
+      globals = globals_fit (globals_of d.phase d.globals d.global) gs;
+      global_count = good.global_count;
+      functions = functions_fit (functions_of d.phase d.functions d.function) fs;
+      function_count = good.function_count;
     }
 
 -- the text may end so
@@ -385,9 +401,9 @@ ending phase.Variables ts gs g fs f =
     let c = functions_text 0 fs ++ (h ++ v) in
     let r = begin_text ++ (commands_text f.commands ++ end_text) in
     record {
-        more = r;
-        all = regroup_five first_head second_head (types_text 8 (drop 8 ts)) (globals_text 0 gs) c r
-            ∙ ap (λ t. first_head ++ (second_head ++ (types_text 8 (drop 8 ts) ++ (globals_text 0 gs ++ t)))) (regroup_vars (functions_text 0 fs) h v r ∙ one_more fs f);
+      more = r;
+      all = regroup_five first_head second_head (types_text 8 (drop 8 ts)) (globals_text 0 gs) c r
+          ∙ ap (λ t. first_head ++ (second_head ++ (types_text 8 (drop 8 ts) ++ (globals_text 0 gs ++ t)))) (regroup_vars (functions_text 0 fs) h v r ∙ one_more fs f);
     }
 ending phase.Commands ts gs g fs f =
     let h = head_text (length fs) f in
@@ -395,9 +411,9 @@ ending phase.Commands ts gs g fs f =
     let k = commands_text f.commands in
     let c = functions_text 0 fs ++ (h ++ (v ++ (begin_text ++ k))) in
     record {
-        more = end_text;
-        all = regroup_five first_head second_head (types_text 8 (drop 8 ts)) (globals_text 0 gs) c end_text
-            ∙ ap (λ t. first_head ++ (second_head ++ (types_text 8 (drop 8 ts) ++ (globals_text 0 gs ++ t)))) (regroup_commands (functions_text 0 fs) h v begin_text k end_text ∙ one_more fs f);
+      more = end_text;
+      all = regroup_five first_head second_head (types_text 8 (drop 8 ts)) (globals_text 0 gs) c end_text
+          ∙ ap (λ t. first_head ++ (second_head ++ (types_text 8 (drop 8 ts) ++ (globals_text 0 gs ++ t)))) (regroup_commands (functions_text 0 fs) h v begin_text k end_text ∙ one_more fs f);
     }
 
 begins : (d : Draft) → Good d → IsTypes d.types → Begins (text_read d.phase d)
@@ -420,7 +436,7 @@ read_so text rest n d h = read_lines h.lines empty_draft d good_start h.made
 
 empty_rest : (s : List ℕ) → true ≡ eqb (length s) 0 → s ≡ []
 empty_rest [] e = refl
-empty_rest (c ∷ cs) e = cc
+empty_rest (c ∷ cs) e = let none : length (c ∷ cs) ≡ 0 = eqb-true (length (c ∷ cs)) 0 (sym e) in absurd (omega arith)
 
 none_some : (d : Draft) → None ≡ Some d → ⊥
 none_some d e = cc
@@ -431,9 +447,10 @@ parsed text flat p =
     let d = p.draft in
     let r = read_so text p.read.rest p.line d h in
     let nothing : p.read.rest ≡ [] = empty_rest p.read.rest p.read.all in
-    let shown : text ≡ text_read d.phase d = h.split ∙ ap (λ t. concat h.lines ++ t) nothing ∙ append-nil (concat h.lines) ∙ sym r.text in
-    (ap Text p.made ∙ text_is (flat_of d) ∙ sym (shown ∙ whole_text d.phase d.types d.globals d.global d.functions d.function p.whole),
-    subst IsSayable (sym p.made) (sayable d r.good h.types))
+    let shown : text ≡ text_read d.phase d = h.split ∙ ap (λ t. concat h.lines ++ t) nothing ∙ append-nil (concat h.lines) ∙ sym r.text in (
+      ap Text p.made ∙ text_is (flat_of d) ∙ sym (shown ∙ whole_text d.phase d.types d.globals d.global d.functions d.function p.whole),
+      subst IsSayable (sym p.made) (sayable d r.good h.types),
+    )
 
 -- no line is refused in the text of a program
 refuse : (flat : Flat) (lines : List (List ℕ)) (line more : List ℕ) (d : Draft) → IsSayable flat → AllByRecursion IsLine lines → IsLine line → run empty_draft lines ≡ Some d → next d line ≡ None
@@ -446,3 +463,114 @@ refuse flat lines line more d say whole is made refused same =
     let stopped : run empty_draft ((lines ++ line ∷ []) ++ c.more) ≡ None = run_append (lines ++ line ∷ []) c.more empty_draft ∙ ap (λ o. run_on o (λ e. run e c.more)) pushed in
     let there : run empty_draft ((lines ++ line ∷ []) ++ c.more) ≡ Some w.d = ap (run empty_draft) (sym c.are) ∙ w.made in
     none_some w.d (sym stopped ∙ there)
+
+same_draft : (d e : Draft) → Some d ≡ Some e → d ≡ e
+same_draft d e h = cc
+
+no_more : {X : Type 0} (xs : List X) → length xs ≡ 0 → xs ≡ []
+no_more [] e = refl
+no_more (x ∷ xs) e = absurd (omega arith)
+
+-- each program has one text
+pub one_text : (a b : Flat) → IsSayable a → IsSayable b → Text a ≡ Text b → a ≡ b
+one_text a b sa sb e =
+    let wa = run_whole a sa in
+    let wb = run_whole b sb in
+    let make : concat (texts_of b) ≡ concat (texts_of a) = texts_make b ∙ sym e ∙ sym (texts_make a) in
+    let c = lines_alike (texts_of a) (texts_of b) [] (texts_lines a sa) (texts_lines b sb) (make ∙ sym (append-nil (concat (texts_of a)))) in
+    let k = lines_alike (texts_of b) (texts_of a) [] (texts_lines b sb) (texts_lines a sa) (sym make ∙ sym (append-nil (concat (texts_of b)))) in
+    let long : length (texts_of b) ≡ length (texts_of a) + length c.more = ap length c.are ∙ length-append (texts_of a) c.more in
+    let longer_too : length (texts_of a) ≡ length (texts_of b) + length k.more = ap length k.are ∙ length-append (texts_of b) k.more in
+    let none : length c.more ≡ 0 = omega (arith, long, longer_too) in
+    let same : texts_of b ≡ texts_of a = c.are ∙ ap (λ m. texts_of a ++ m) (no_more c.more none) ∙ append-nil (texts_of a) in
+    let drafts : wa.d ≡ wb.d = same_draft wa.d wb.d (sym wa.made ∙ ap (run empty_draft) (sym same) ∙ wb.made) in
+    sym wa.same ∙ ap flat_of drafts ∙ wb.same
+
+all_behind : {X : Type 0} (P : X → Type 0) (xs ys : List X) → AllByRecursion P (xs ++ ys) → AllByRecursion P ys
+all_behind P [] ys all = all
+all_behind P (x ∷ xs) ys all = all_behind P xs ys all.1
+
+some_line : (found : List ℕ × List ℕ) → None ≡ Some found → ⊥
+some_line found e = cc
+
+true_false : true ≡ false → ⊥
+true_false e = cc
+
+cut_by : (flat : Flat) (lines more : List (List ℕ)) (rest : List ℕ) (ended : Bool) (d : Draft) → IsSayable flat → run empty_draft lines ≡ Some d → line_of rest ≡ None → ended ≡ eqb (length rest) 0 → (ended && is_whole d.phase) ≡ false
+    → texts_of flat ≡ lines ++ more → AllByRecursion IsLine more → rest ≡ concat more → ⊥
+cut_by flat lines [] rest ended d say made none all cut are each behind =
+    let w = run_whole flat say in
+    let here : lines ≡ texts_of flat = sym (append-nil lines) ∙ sym are in
+    let same : w.d ≡ d = same_draft w.d d (sym w.made ∙ ap (run empty_draft) (sym here) ∙ made) in
+    let whole : is_whole d.phase ≡ true = ap (λ e. is_whole e.phase) (sym same) ∙ w.whole in
+    let over : ended ≡ true = all ∙ ap (λ s. eqb (length s) 0) behind in
+    let both_so : (ended && is_whole d.phase) ≡ true = both_hold ended (is_whole d.phase) over whole in
+    true_false (sym both_so ∙ cut)
+cut_by flat lines (line ∷ more) rest ended d say made none all cut are each behind =
+    some_line (line, concat more) (sym none ∙ ap line_of behind ∙ line_first line (concat more) each.0)
+
+cut_off : (text : List ℕ) (n : ℕ) (flat : Flat) → IsCut text n → IsSayable flat → Text flat ≡ text → ⊥
+cut_off text n flat c say same =
+    let h = c.read.read in
+    let a = lines_alike h.lines (texts_of flat) c.read.rest h.whole (texts_lines flat say) (texts_make flat ∙ same ∙ h.split) in
+    cut_by flat h.lines a.more c.read.rest c.ended c.draft say h.made c.read.none c.read.all c.cut a.are
+    (all_behind IsLine h.lines a.more (subst (AllByRecursion IsLine) a.are (texts_lines flat say))) a.behind
+
+stopped_off : (text : List ℕ) (n : ℕ) (flat : Flat) → IsStopped text n → IsSayable flat → Text flat ≡ text → ⊥
+stopped_off text n flat s say same =
+    let h = s.read in
+    let l = line_found s.rest s.line s.more s.found in
+    refuse flat h.lines s.line s.more s.draft say h.whole l.0 h.made s.refused
+    (same ∙ h.split ∙ ap (λ t. concat h.lines ++ t) l.1 ∙ sym (append_assoc (concat h.lines) s.line s.more))
+
+pub only : (text : List ℕ) (r : Result Flat FlatFault) → IfOk r (λ found. IsParsed text found) → IfErr r (λ fault. IsRefusedBy text fault) → (flat : Flat) → IsSayable flat → Text flat ≡ text → Gives flat r
+only text (Ok found) ok err flat say same = let p = parsed text found ok in one_text found flat p.1 say (p.0 ∙ sym same)
+only text (Err NoMemory) ok err flat say same = tt
+only text (Err (FlatSyntax n)) ok (inl stopped) flat say same = stopped_off text n flat stopped say same
+only text (Err (FlatSyntax n)) ok (inr cut) flat say same = cut_off text n flat cut say same
+
+pub read_again : (text : List ℕ) (r : Result Flat FlatFault) → IfOk r (λ found. IsParsed text found) → IfOk r (λ flat. (Text flat ≡ text) × IsSayable flat)
+read_again text (Ok found) ok = parsed text found ok
+read_again text (Err fault) ok = tt
+
+begun_so : (text rest : List ℕ) (n : ℕ) (d : Draft) (h : HasRead text rest n d) → Begins (concat h.lines)
+begun_so text rest n d h = let r = read_so text rest n d h in subst Begins r.text (begins d r.good h.types)
+
+abbrev line_or : List ℕ → Option (List ℕ × List ℕ) → List ℕ
+line_or other None = other
+line_or other (Some p) = p.0
+
+wrong_stopped : (text : List ℕ) (n : ℕ) (s : IsStopped text n) (line more : List ℕ) → IsLine line → s.rest ≡ line ++ more → Begins (concat s.read.lines ++ line) → ⊥
+wrong_stopped text n s line more is e b =
+    let h = s.read in
+    let l = line_found s.rest s.line s.more s.found in
+    let found : Some (line, more) ≡ Some (s.line, s.more) = sym (line_first line more is) ∙ ap line_of (sym e) ∙ s.found in
+    let same : line ≡ s.line = ap (line_or []) found in
+    refuse b.program h.lines s.line b.more s.draft b.sayable h.whole l.0 h.made s.refused (sym b.all ∙ ap (λ t. (concat h.lines ++ t) ++ b.more) same)
+
+stopped_wrong : (text : List ℕ) (n : ℕ) → IsStopped text n → IsFirstWrongLine text n
+stopped_wrong text n s =
+    let h = s.read in
+    record { lines = h.lines; rest = s.rest; split = h.split; whole = h.whole; number = h.number; before = begun_so text s.rest n s.draft h; wrong = wrong_stopped text n s }
+
+cut_wrong : (text : List ℕ) (n : ℕ) → IsCut text n → IsFirstWrongLine text n
+cut_wrong text n c =
+    let h = c.read.read in
+    record {
+      lines = h.lines;
+      rest = c.read.rest;
+      split = h.split;
+      whole = h.whole;
+      number = h.number;
+      before = begun_so text c.read.rest n c.draft h;
+      wrong = λ line more is e b. some_line (line, more) (sym c.read.none ∙ ap line_of e ∙ line_first line more is);
+    }
+
+refused_so : (text : List ℕ) (fault : FlatFault) → IsRefusedBy text fault → IsRefused text fault
+refused_so text NoMemory r = tt
+refused_so text (FlatSyntax n) (inl stopped) = stopped_wrong text n stopped
+refused_so text (FlatSyntax n) (inr cut) = cut_wrong text n cut
+
+pub refused : (text : List ℕ) (r : Result Flat FlatFault) → IfErr r (λ fault. IsRefusedBy text fault) → IfErr r (λ fault. IsRefused text fault)
+refused text (Ok found) err = tt
+refused text (Err fault) err = refused_so text fault err

@@ -49,9 +49,9 @@ functions_are n (f ∷ functions) =
     ap (λ t. head_text n f ++ t) (texts_append body (begin_line ∷ more))
     ∙ ap (λ t. head_text n f ++ (t ++ (begin_text ++ flat_map line_text more))) (vars_are f 0 f.vars)
     ∙ ap (λ t. head_text n f ++ (vars_text 0 f.vars ++ (begin_text ++ t)))
-      (texts_append (command_lines f 0 f.commands) (function_lines (n + 1) functions)
-      ∙ ap (λ t. t ++ flat_map line_text (function_lines (n + 1) functions)) (commands_are f 0 f.commands)
-      ∙ ap (λ t. (commands_text f.commands ++ end_text) ++ t) (functions_are (n + 1) functions))
+    (texts_append (command_lines f 0 f.commands) (function_lines (n + 1) functions)
+    ∙ ap (λ t. t ++ flat_map line_text (function_lines (n + 1) functions)) (commands_are f 0 f.commands)
+    ∙ ap (λ t. (commands_text f.commands ++ end_text) ++ t) (functions_are (n + 1) functions))
     ∙ simp append_assoc
 
 pub text_is : (flat : Flat) → Text flat ≡ flat_text flat
@@ -60,9 +60,9 @@ text_is flat =
     (texts_append (type_lines 8 (drop 8 flat.types)) (global_lines 0 flat.globals ++ function_lines 0 flat.functions)
     ∙ ap (λ t. t ++ flat_map line_text (global_lines 0 flat.globals ++ function_lines 0 flat.functions)) (types_are 8 (drop 8 flat.types))
     ∙ ap (λ t. types_text 8 (drop 8 flat.types) ++ t)
-      (texts_append (global_lines 0 flat.globals) (function_lines 0 flat.functions)
-      ∙ ap (λ t. t ++ flat_map line_text (function_lines 0 flat.functions)) (globals_are 0 flat.globals)
-      ∙ ap (λ t. globals_text 0 flat.globals ++ t) (functions_are 0 flat.functions)))
+    (texts_append (global_lines 0 flat.globals) (function_lines 0 flat.functions)
+    ∙ ap (λ t. t ++ flat_map line_text (function_lines 0 flat.functions)) (globals_are 0 flat.globals)
+    ∙ ap (λ t. globals_text 0 flat.globals ++ t) (functions_are 0 flat.functions)))
 
 some_same : {x y : Ty} → Some x ≡ Some y → x ≡ y
 some_same e = cc

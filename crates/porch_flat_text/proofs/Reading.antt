@@ -49,13 +49,13 @@ pub goes_on : (text rest line more : List ℕ) (n : ℕ) (d e : Draft) (taken : 
 goes_on text rest line more n d e taken read found true_so t types =
     let l = line_found rest line more (sym found) in
     record {
-        lines = read.lines ++ line ∷ [];
-        split = read.split ∙ ap (λ s. concat read.lines ++ s) l.1 ∙ sym (append_assoc (concat read.lines) line more)
-            ∙ ap (λ s. s ++ more) (ap (λ s. concat read.lines ++ s) (sym (append-nil line)) ∙ sym (concat_append read.lines (line ∷ [])));
-        whole = all_push IsLine read.lines line read.whole l.0;
-        number = ap (λ k. k + 1) read.number ∙ ap (λ k. k + 1) (sym (length-append read.lines (line ∷ [])));
-        made = run_push read.lines line empty_draft d read.made ∙ taken_next (next d line) taken e true_so t;
-        types = types;
+      lines = read.lines ++ line ∷ [];
+      split = read.split ∙ ap (λ s. concat read.lines ++ s) l.1 ∙ sym (append_assoc (concat read.lines) line more)
+          ∙ ap (λ s. s ++ more) (ap (λ s. concat read.lines ++ s) (sym (append-nil line)) ∙ sym (concat_append read.lines (line ∷ [])));
+      whole = all_push IsLine read.lines line read.whole l.0;
+      number = ap (λ k. k + 1) read.number ∙ ap (λ k. k + 1) (sym (length-append read.lines (line ∷ [])));
+      made = run_push read.lines line empty_draft d read.made ∙ taken_next (next d line) taken e true_so t;
+      types = types;
     }
 
 pub stops : (text rest line more : List ℕ) (n : ℕ) (d e : Draft) (taken : Bool)

@@ -97,22 +97,22 @@ type_step ts gs g fs f w inner good =
     let behind : drop 8 (ts ++ ty ∷ []) ≡ drop 8 ts ++ ty ∷ [] = drop-append-le 8 ts (ty ∷ []) good.eight in
     let count : 8 + length (drop 8 ts) ≡ length ts = omega (arith, length-drop 8 ts, good.eight) in
     let text : types_text 8 (drop 8 (ts ++ ty ∷ [])) ≡ types_text 8 (drop 8 ts) ++ row_text (type_row (length ts) ty) =
-        ap (types_text 8) behind ∙ types_pushed 8 (drop 8 ts) ty ∙ ap (λ n. types_text 8 (drop 8 ts) ++ row_text (type_row n ty)) count in
+    ap (types_text 8) behind ∙ types_pushed 8 (drop 8 ts) ty ∙ ap (λ n. types_text 8 (drop 8 ts) ++ row_text (type_row n ty)) count in
     record {
-        good = record {
-            order = good.order;
-            eight = rw (length-append ts (ty ∷ [])) (omega (arith, good.eight));
-            built = subst (λ xs. IsTrue (list_all is_built xs)) (sym behind) (list_all_push is_built (drop 8 ts) ty good.built (some_built w inner));
-            type_fits = subst (λ xs. AllByRecursion TypeFits xs) (sym behind) (all_push TypeFits (drop 8 ts) ty good.type_fits (type_from_fits w inner));
-            globals = good.globals;
-            global = good.global;
-            global_count = good.global_count;
-            functions = good.functions;
-            function = tt;
-            function_count = good.function_count;
-        };
-        text = ap (λ t. first_head ++ (second_head ++ (t ++ (globals_text 0 gs ++ functions_text 0 fs)))) text
-            ∙ end_types first_head second_head (types_text 8 (drop 8 ts)) (row_text (type_row (length ts) ty)) (globals_text 0 gs ++ functions_text 0 fs) (none_yet ts gs fs good.order.0 good.order.1);
+      good = record {
+        order = good.order;
+        eight = rw (length-append ts (ty ∷ [])) (omega (arith, good.eight));
+        built = subst (λ xs. IsTrue (list_all is_built xs)) (sym behind) (list_all_push is_built (drop 8 ts) ty good.built (some_built w inner));
+        type_fits = subst (λ xs. AllByRecursion TypeFits xs) (sym behind) (all_push TypeFits (drop 8 ts) ty good.type_fits (type_from_fits w inner));
+        globals = good.globals;
+        global = good.global;
+        global_count = good.global_count;
+        functions = good.functions;
+        function = tt;
+        function_count = good.function_count;
+      };
+      text = ap (λ t. first_head ++ (second_head ++ (t ++ (globals_text 0 gs ++ functions_text 0 fs)))) text
+          ∙ end_types first_head second_head (types_text 8 (drop 8 ts)) (row_text (type_row (length ts) ty)) (globals_text 0 gs ++ functions_text 0 fs) (none_yet ts gs fs good.order.0 good.order.1);
     }
 
 -- the globals are good, with the one that goes on
@@ -134,23 +134,23 @@ global_step p ts gs g fs f ty read none count same fits good few =
     let new : GlobalObject = record { ty = ty; inits = [] } in
     let low : length all < 2 ^ 32 = ltb-true (length all) (2 ^ 32) few in
     let pushed : globals_text 0 (all ++ new ∷ []) ≡ globals_text 0 all ++ global_head (length all) ty =
-        globals_pushed 0 all new ∙ ap (λ t. globals_text 0 all ++ t) (append-nil (global_head (0 + length all) ty))
-        ∙ ap (λ n. globals_text 0 all ++ global_head n ty) (zero-add (length all)) in
+    globals_pushed 0 all new ∙ ap (λ t. globals_text 0 all ++ t) (append-nil (global_head (0 + length all) ty))
+    ∙ ap (λ n. globals_text 0 all ++ global_head n ty) (zero-add (length all)) in
     record {
-        good = record {
-            order = none;
-            eight = good.eight;
-            built = good.built;
-            type_fits = good.type_fits;
-            globals = globals_good p gs g good.globals good.global;
-            global = record { fits = record { ty = fits; inits = tt }; said = refl };
-            global_count = rw (length-append all (new ∷ [])) (omega (arith, low));
-            functions = good.functions;
-            function = tt;
-            function_count = subst (λ xs. length xs ≤ 2 ^ 32) same count;
-        };
-        text = end_globals first_head second_head (types_text 8 (drop 8 ts)) (globals_text 0 all) (globals_text 0 (all ++ new ∷ [])) (global_head (length all) ty) (functions_text 0 fs) pushed (ap (functions_text 0) none)
-            ∙ ap (λ t. t ++ global_head (length all) ty) (sym read);
+      good = record {
+        order = none;
+        eight = good.eight;
+        built = good.built;
+        type_fits = good.type_fits;
+        globals = globals_good p gs g good.globals good.global;
+        global = record { fits = record { ty = fits; inits = tt }; said = refl };
+        global_count = rw (length-append all (new ∷ [])) (omega (arith, low));
+        functions = good.functions;
+        function = tt;
+        function_count = subst (λ xs. length xs ≤ 2 ^ 32) same count;
+      };
+      text = end_globals first_head second_head (types_text 8 (drop 8 ts)) (globals_text 0 all) (globals_text 0 (all ++ new ∷ [])) (global_head (length all) ty) (functions_text 0 fs) pushed (ap (functions_text 0) none)
+          ∙ ap (λ t. t ++ global_head (length all) ty) (sym read);
     }
 
 init_from_fits : (w : Word) (inner : List ℕ) → RowFits (init_row 0 (init_from w inner))
@@ -171,29 +171,29 @@ init_step ts gs g fs f init fits good said =
     let n = length gs in
     let r = row_text (init_row n init) in
     let pushed : globals_text 0 (gs ++ new ∷ []) ≡ globals_text 0 (gs ++ g ∷ []) ++ r =
-        globals_pushed 0 gs new
-        ∙ ap (λ k. globals_text 0 gs ++ global_text k new) (zero-add n)
-        ∙ ap (λ t. globals_text 0 gs ++ (global_head n g.ty ++ t)) (inits_pushed n g.inits init)
-        ∙ regroup (globals_text 0 gs) (global_head n g.ty) (inits_text n g.inits) r
-        ∙ ap (λ k. (globals_text 0 gs ++ global_text k g) ++ r) (sym (zero-add n))
-        ∙ ap (λ t. t ++ r) (sym (globals_pushed 0 gs g)) in
+    globals_pushed 0 gs new
+    ∙ ap (λ k. globals_text 0 gs ++ global_text k new) (zero-add n)
+    ∙ ap (λ t. globals_text 0 gs ++ (global_head n g.ty ++ t)) (inits_pushed n g.inits init)
+    ∙ regroup (globals_text 0 gs) (global_head n g.ty) (inits_text n g.inits) r
+    ∙ ap (λ k. (globals_text 0 gs ++ global_text k g) ++ r) (sym (zero-add n))
+    ∙ ap (λ t. t ++ r) (sym (globals_pushed 0 gs g)) in
     record {
-        good = record {
-            order = good.order;
-            eight = good.eight;
-            built = good.built;
-            type_fits = good.type_fits;
-            globals = good.globals;
-            global = record {
-                fits = record { ty = good.global.fits.ty; inits = all_push (λ i. RowFits (init_row 0 i)) g.inits init good.global.fits.inits fits };
-                said = list_all_push is_said g.inits init good.global.said said;
-            };
-            global_count = same_count gs g new good.global_count;
-            functions = good.functions;
-            function = tt;
-            function_count = good.function_count;
+      good = record {
+        order = good.order;
+        eight = good.eight;
+        built = good.built;
+        type_fits = good.type_fits;
+        globals = good.globals;
+        global = record {
+          fits = record { ty = good.global.fits.ty; inits = all_push (λ i. RowFits (init_row 0 i)) g.inits init good.global.fits.inits fits };
+          said = list_all_push is_said g.inits init good.global.said said;
         };
-        text = end_globals first_head second_head (types_text 8 (drop 8 ts)) (globals_text 0 (gs ++ g ∷ [])) (globals_text 0 (gs ++ new ∷ [])) r (functions_text 0 fs) pushed (ap (functions_text 0) good.order);
+        global_count = same_count gs g new good.global_count;
+        functions = good.functions;
+        function = tt;
+        function_count = good.function_count;
+      };
+      text = end_globals first_head second_head (types_text 8 (drop 8 ts)) (globals_text 0 (gs ++ g ∷ [])) (globals_text 0 (gs ++ new ∷ [])) r (functions_text 0 fs) pushed (ap (functions_text 0) good.order);
     }
 
 -- a function begins
@@ -208,29 +208,29 @@ function_step p ts gs g fs f inner read good condition =
     let low : length fs < 2 ^ 32 = ltb-true (length fs) (2 ^ 32) parts.0 in
     let r = head_text (length fs) new in
     record {
-        good = record {
-            order = tt;
-            eight = good.eight;
-            built = good.built;
-            type_fits = good.type_fits;
-            globals = globals_good p gs g good.globals good.global;
-            global = nothing_said;
-            global_count = good.global_count;
-            functions = good.functions;
-            function = record {
-                fits = record { result = result_fits (first (rest (rest inner))); params = number_fits (first (rest (rest (rest inner)))); vars = tt; count = lit≤ tt; commands = tt };
-                named = parts.1;
-            };
-            function_count = rw (length-append fs (new ∷ [])) (omega (arith, low));
+      good = record {
+        order = tt;
+        eight = good.eight;
+        built = good.built;
+        type_fits = good.type_fits;
+        globals = globals_good p gs g good.globals good.global;
+        global = nothing_said;
+        global_count = good.global_count;
+        functions = good.functions;
+        function = record {
+          fits = record { result = result_fits (first (rest (rest inner))); params = number_fits (first (rest (rest (rest inner)))); vars = tt; count = lit≤ tt; commands = tt };
+          named = parts.1;
         };
-        text = end_functions first_head second_head (types_text 8 (drop 8 ts)) (globals_text 0 all) (functions_text 0 fs) (functions_text 0 fs ++ (r ++ [])) r (ap (λ t. functions_text 0 fs ++ t) (append-nil r))
-            ∙ ap (λ t. t ++ r) (sym read);
+        function_count = rw (length-append fs (new ∷ [])) (omega (arith, low));
+      };
+      text = end_functions first_head second_head (types_text 8 (drop 8 ts)) (globals_text 0 all) (functions_text 0 fs) (functions_text 0 fs ++ (r ++ [])) r (ap (λ t. functions_text 0 fs ++ t) (append-nil r))
+          ∙ ap (λ t. t ++ r) (sym read);
     }
 
 variable_step : (ts : List Ty) (gs : List GlobalObject) (g : GlobalObject) (fs : List Function) (f : Function) (ty : ℕ) → ty < 2 ^ 32
     → Good (draft phase.Variables ts gs g fs f) → nat_lt (length f.vars) (2 ^ 32) ≡ true
     → StepGood (draft phase.Variables ts gs g fs f) (row_text (row word.Var (number (length f.vars) ∷ number ty ∷ [])))
-      (draft phase.Variables ts gs g fs (record { name = f.name; result = f.result; params = f.params; vars = f.vars ++ ty ∷ []; commands = f.commands }))
+    (draft phase.Variables ts gs g fs (record { name = f.name; result = f.result; params = f.params; vars = f.vars ++ ty ∷ []; commands = f.commands }))
 variable_step ts gs g fs f ty fits good few =
     let new : Function = record { name = f.name; result = f.result; params = f.params; vars = f.vars ++ ty ∷ []; commands = f.commands } in
     let low : length f.vars < 2 ^ 32 = ltb-true (length f.vars) (2 ^ 32) few in
@@ -238,55 +238,60 @@ variable_step ts gs g fs f ty fits good few =
     let ft = functions_text 0 fs in
     let h = head_text (length fs) f in
     let pushed : vars_text 0 (f.vars ++ ty ∷ []) ≡ vars_text 0 f.vars ++ r =
-        vars_pushed 0 f.vars ty ∙ ap (λ n. vars_text 0 f.vars ++ row_text (row word.Var (number n ∷ number ty ∷ []))) (zero-add (length f.vars)) in
+    vars_pushed 0 f.vars ty ∙ ap (λ n. vars_text 0 f.vars ++ row_text (row word.Var (number n ∷ number ty ∷ []))) (zero-add (length f.vars)) in
     record {
-        good = record {
-            order = tt;
-            eight = good.eight;
-            built = good.built;
-            type_fits = good.type_fits;
-            globals = good.globals;
-            global = good.global;
-            global_count = good.global_count;
-            functions = good.functions;
-            function = record {
-                fits = record { result = good.function.fits.result; params = good.function.fits.params; vars = all_push (λ v. v < 2 ^ 32) f.vars ty good.function.fits.vars fits;
-                    count = rw (length-append f.vars (ty ∷ [])) (omega (arith, low)); commands = good.function.fits.commands };
-                named = good.function.named;
-            };
-            function_count = same_count fs f new good.function_count;
+      good = record {
+        order = tt;
+        eight = good.eight;
+        built = good.built;
+        type_fits = good.type_fits;
+        globals = good.globals;
+        global = good.global;
+        global_count = good.global_count;
+        functions = good.functions;
+        function = record {
+          fits = record {
+            result = good.function.fits.result;
+            params = good.function.fits.params;
+            vars = all_push (λ v. v < 2 ^ 32) f.vars ty good.function.fits.vars fits;
+            count = rw (length-append f.vars (ty ∷ [])) (omega (arith, low));
+            commands = good.function.fits.commands;
+          };
+          named = good.function.named;
         };
-        text = end_functions first_head second_head (types_text 8 (drop 8 ts)) (globals_text 0 gs) (ft ++ (h ++ vars_text 0 f.vars)) (ft ++ (h ++ vars_text 0 (f.vars ++ ty ∷ []))) r
-            (ap (λ t. ft ++ (h ++ t)) pushed ∙ regroup ft h (vars_text 0 f.vars) r);
+        function_count = same_count fs f new good.function_count;
+      };
+      text = end_functions first_head second_head (types_text 8 (drop 8 ts)) (globals_text 0 gs) (ft ++ (h ++ vars_text 0 f.vars)) (ft ++ (h ++ vars_text 0 (f.vars ++ ty ∷ []))) r
+          (ap (λ t. ft ++ (h ++ t)) pushed ∙ regroup ft h (vars_text 0 f.vars) r);
     }
 
 begin_step : (ts : List Ty) (gs : List GlobalObject) (g : GlobalObject) (fs : List Function) (f : Function)
     → Good (draft phase.Variables ts gs g fs f)
     → StepGood (draft phase.Variables ts gs g fs f) begin_text
-      (draft phase.Commands ts gs g fs (record { name = f.name; result = f.result; params = f.params; vars = f.vars; commands = [] }))
+    (draft phase.Commands ts gs g fs (record { name = f.name; result = f.result; params = f.params; vars = f.vars; commands = [] }))
 begin_step ts gs g fs f good =
     let new : Function = record { name = f.name; result = f.result; params = f.params; vars = f.vars; commands = [] } in
     let ft = functions_text 0 fs in
     let h = head_text (length fs) f in
     let v = vars_text 0 f.vars in
     record {
-        good = record {
-            order = tt;
-            eight = good.eight;
-            built = good.built;
-            type_fits = good.type_fits;
-            globals = good.globals;
-            global = good.global;
-            global_count = good.global_count;
-            functions = good.functions;
-            function = record {
-                fits = record { result = good.function.fits.result; params = good.function.fits.params; vars = good.function.fits.vars; count = good.function.fits.count; commands = tt };
-                named = good.function.named;
-            };
-            function_count = same_count fs f new good.function_count;
+      good = record {
+        order = tt;
+        eight = good.eight;
+        built = good.built;
+        type_fits = good.type_fits;
+        globals = good.globals;
+        global = good.global;
+        global_count = good.global_count;
+        functions = good.functions;
+        function = record {
+          fits = record { result = good.function.fits.result; params = good.function.fits.params; vars = good.function.fits.vars; count = good.function.fits.count; commands = tt };
+          named = good.function.named;
         };
-        text = end_functions first_head second_head (types_text 8 (drop 8 ts)) (globals_text 0 gs) (ft ++ (h ++ v)) (ft ++ (h ++ (v ++ (begin_text ++ [])))) begin_text
-            (ap (λ t. ft ++ (h ++ (v ++ t))) (append-nil begin_text) ∙ regroup ft h v begin_text);
+        function_count = same_count fs f new good.function_count;
+      };
+      text = end_functions first_head second_head (types_text 8 (drop 8 ts)) (globals_text 0 gs) (ft ++ (h ++ v)) (ft ++ (h ++ (v ++ (begin_text ++ [])))) begin_text
+          (ap (λ t. ft ++ (h ++ (v ++ t))) (append-nil begin_text) ∙ regroup ft h v begin_text);
     }
 
 regroup_more : (a b c d e r : List ℕ) → a ++ (b ++ (c ++ (d ++ (e ++ r)))) ≡ (a ++ (b ++ (c ++ (d ++ e)))) ++ r
@@ -295,7 +300,7 @@ regroup_more a b c d e r = simp append_assoc
 command_step : (ts : List Ty) (gs : List GlobalObject) (g : GlobalObject) (fs : List Function) (f : Function) (c : Command) → RowFits (command_row c)
     → Good (draft phase.Commands ts gs g fs f)
     → StepGood (draft phase.Commands ts gs g fs f) (row_text (command_row c))
-      (draft phase.Commands ts gs g fs (record { name = f.name; result = f.result; params = f.params; vars = f.vars; commands = f.commands ++ c ∷ [] }))
+    (draft phase.Commands ts gs g fs (record { name = f.name; result = f.result; params = f.params; vars = f.vars; commands = f.commands ++ c ∷ [] }))
 command_step ts gs g fs f c fits good =
     let new : Function = record { name = f.name; result = f.result; params = f.params; vars = f.vars; commands = f.commands ++ c ∷ [] } in
     let ft = functions_text 0 fs in
@@ -303,24 +308,29 @@ command_step ts gs g fs f c fits good =
     let v = vars_text 0 f.vars in
     let r = row_text (command_row c) in
     record {
-        good = record {
-            order = tt;
-            eight = good.eight;
-            built = good.built;
-            type_fits = good.type_fits;
-            globals = good.globals;
-            global = good.global;
-            global_count = good.global_count;
-            functions = good.functions;
-            function = record {
-                fits = record { result = good.function.fits.result; params = good.function.fits.params; vars = good.function.fits.vars; count = good.function.fits.count;
-                    commands = all_push (λ k. RowFits (command_row k)) f.commands c good.function.fits.commands fits };
-                named = good.function.named;
-            };
-            function_count = same_count fs f new good.function_count;
+      good = record {
+        order = tt;
+        eight = good.eight;
+        built = good.built;
+        type_fits = good.type_fits;
+        globals = good.globals;
+        global = good.global;
+        global_count = good.global_count;
+        functions = good.functions;
+        function = record {
+          fits = record {
+            result = good.function.fits.result;
+            params = good.function.fits.params;
+            vars = good.function.fits.vars;
+            count = good.function.fits.count;
+            commands = all_push (λ k. RowFits (command_row k)) f.commands c good.function.fits.commands fits;
+          };
+          named = good.function.named;
         };
-        text = end_functions first_head second_head (types_text 8 (drop 8 ts)) (globals_text 0 gs) (ft ++ (h ++ (v ++ (begin_text ++ commands_text f.commands)))) (ft ++ (h ++ (v ++ (begin_text ++ commands_text (f.commands ++ c ∷ []))))) r
-            (ap (λ t. ft ++ (h ++ (v ++ (begin_text ++ t)))) (commands_pushed f.commands c) ∙ regroup_more ft h v begin_text (commands_text f.commands) r);
+        function_count = same_count fs f new good.function_count;
+      };
+      text = end_functions first_head second_head (types_text 8 (drop 8 ts)) (globals_text 0 gs) (ft ++ (h ++ (v ++ (begin_text ++ commands_text f.commands)))) (ft ++ (h ++ (v ++ (begin_text ++ commands_text (f.commands ++ c ∷ []))))) r
+          (ap (λ t. ft ++ (h ++ (v ++ (begin_text ++ t)))) (commands_pushed f.commands c) ∙ regroup_more ft h v begin_text (commands_text f.commands) r);
     }
 
 end_step : (ts : List Ty) (gs : List GlobalObject) (g : GlobalObject) (fs : List Function) (f : Function)
@@ -331,20 +341,20 @@ end_step ts gs g fs f good =
     let h = head_text (length fs) f in
     let v = vars_text 0 f.vars in
     record {
-        good = record {
-            order = tt;
-            eight = good.eight;
-            built = good.built;
-            type_fits = good.type_fits;
-            globals = good.globals;
-            global = good.global;
-            global_count = good.global_count;
-            functions = all_push GoodFunction fs f good.functions good.function;
-            function = tt;
-            function_count = good.function_count;
-        };
-        text = end_functions first_head second_head (types_text 8 (drop 8 ts)) (globals_text 0 gs) (ft ++ (h ++ (v ++ (begin_text ++ commands_text f.commands)))) (functions_text 0 (fs ++ f ∷ [])) end_text
-            (functions_pushed 0 fs f ∙ ap (λ n. ft ++ function_text n f) (zero-add (length fs)) ∙ regroup_more ft h v begin_text (commands_text f.commands) end_text);
+      good = record {
+        order = tt;
+        eight = good.eight;
+        built = good.built;
+        type_fits = good.type_fits;
+        globals = good.globals;
+        global = good.global;
+        global_count = good.global_count;
+        functions = all_push GoodFunction fs f good.functions good.function;
+        function = tt;
+        function_count = good.function_count;
+      };
+      text = end_functions first_head second_head (types_text 8 (drop 8 ts)) (globals_text 0 gs) (ft ++ (h ++ (v ++ (begin_text ++ commands_text f.commands)))) (functions_text 0 (fs ++ f ∷ [])) end_text
+          (functions_pushed 0 fs f ∙ ap (λ n. ft ++ function_text n f) (zero-add (length fs)) ∙ regroup_more ft h v begin_text (commands_text f.commands) end_text);
     }
 
 choose : (b : Bool) (x y : Option Draft) (e : Draft) (P : Type 0) → (x ≡ Some e → P) → (y ≡ Some e → P) → cond b x y ≡ Some e → P
@@ -411,11 +421,19 @@ start_step : (ts : List Ty) (gs : List GlobalObject) (g : GlobalObject) (fs : Li
     → Good (draft phase.Start ts gs g fs f) → StepGood (draft phase.Start ts gs g fs f) first_head (draft phase.Second ts gs g fs f)
 start_step ts gs g fs f good =
     record {
-        good = record {
-            order = good.order; eight = good.eight; built = good.built; type_fits = good.type_fits; globals = good.globals; global = good.global; global_count = good.global_count;
-            functions = good.functions; function = tt; function_count = good.function_count;
-        };
-        text = refl;
+      good = record {
+        order = good.order;
+        eight = good.eight;
+        built = good.built;
+        type_fits = good.type_fits;
+        globals = good.globals;
+        global = good.global;
+        global_count = good.global_count;
+        functions = good.functions;
+        function = tt;
+        function_count = good.function_count;
+      };
+      text = refl;
     }
 
 no_body : (ts : List Ty) (gs : List GlobalObject) (fs : List Function) → drop 8 ts ≡ [] → gs ≡ [] → fs ≡ [] → types_text 8 (drop 8 ts) ++ (globals_text 0 gs ++ functions_text 0 fs) ≡ []
@@ -425,11 +443,19 @@ second_step : (ts : List Ty) (gs : List GlobalObject) (g : GlobalObject) (fs : L
     → Good (draft phase.Second ts gs g fs f) → StepGood (draft phase.Second ts gs g fs f) second_head (draft phase.Types ts gs g fs f)
 second_step ts gs g fs f good =
     record {
-        good = record {
-            order = (good.order.1, good.order.2); eight = good.eight; built = good.built; type_fits = good.type_fits; globals = good.globals; global = good.global; global_count = good.global_count;
-            functions = good.functions; function = tt; function_count = good.function_count;
-        };
-        text = ap (λ t. first_head ++ (second_head ++ t)) (no_body ts gs fs good.order.0 good.order.1 good.order.2) ∙ refl;
+      good = record {
+        order = (good.order.1, good.order.2);
+        eight = good.eight;
+        built = good.built;
+        type_fits = good.type_fits;
+        globals = good.globals;
+        global = good.global;
+        global_count = good.global_count;
+        functions = good.functions;
+        function = tt;
+        function_count = good.function_count;
+      };
+      text = ap (λ t. first_head ++ (second_head ++ t)) (no_body ts gs fs good.order.0 good.order.1 good.order.2) ∙ refl;
     }
 
 at_phase : (p : Phase) (ts : List Ty) (gs : List GlobalObject) (g : GlobalObject) (fs : List Function) (f : Function) (line : List ℕ) (e : Draft)

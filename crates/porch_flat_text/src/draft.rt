@@ -55,6 +55,7 @@ pub(crate) struct Draft {
 
 /// The two lines that every text begins with.
 pub(crate) const FIRST_HEAD: &str = "/* porch flat text, version 1 */\n";
+
 pub(crate) const SECOND_HEAD: &str = "#include \"porch.h\"\n";
 
 /// The most types of a program.
@@ -178,12 +179,7 @@ fn add_type(types: &mut Types, ty: Ty) -> Result<bool, AllocError>
     }
 }
 
-fn is_type_line(
-    scratch: &mut Vec<u8>,
-    n: usize,
-    ty: &Ty,
-    line: &[u8],
-) -> Result<bool, AllocError>
+fn is_type_line(scratch: &mut Vec<u8>, n: usize, ty: &Ty, line: &[u8]) -> Result<bool, AllocError>
     ensures { IfOk result (λ written. written ≡ bytes_eq (row_text (type_row n ty.now)) line.now) }
 {
     scratch.clear();
@@ -234,7 +230,9 @@ fn empty_function(alloc: Global) -> Function
 
 fn close_global(alloc: Global, draft: &mut Draft) -> Result<(), AllocError>
     ensures { OnOk result (draft.new ≡ record draft.old {
-        globals = globals_of draft.old.phase draft.old.globals draft.old.global; global = empty_global }) }
+      globals = globals_of draft.old.phase draft.old.globals draft.old.global;
+      global = empty_global;
+    }) }
 {
     let global = replace(&mut draft.global, empty_global(alloc));
     match draft.phase {
@@ -264,7 +262,12 @@ fn take_global(
     let ty = number_in(ty);
     let n = draft.globals.len();
     scratch.clear();
-    put_two(scratch, Word::Global, Argument::Number(n as u64), number(ty))?;
+    put_two(
+        scratch,
+        Word::Global,
+        Argument::Number(n as u64),
+        number(ty),
+    )?;
     draft.phase = Phase::Globals;
     draft.global.ty = ty;
     Ok(n < MOST_PARTS && scratch.as_slice() == line)
@@ -343,9 +346,11 @@ fn take_function(
     let n = draft.functions.len();
     scratch.clear();
     put_head(scratch, n as u64, &draft.function)?;
-    Ok(n < MOST_PARTS
-        && is_function_name(draft.function.name.as_slice())
-        && scratch.as_slice() == line)
+    Ok(
+        n < MOST_PARTS
+            && is_function_name(draft.function.name.as_slice())
+            && scratch.as_slice() == line,
+    )
 }
 
 #[tactic(auto, using(crate::proofs::Steps::taken_when))]
@@ -594,7 +599,15 @@ fn take_form(
         Phase::Globals => take_in_globals(alloc, draft, scratch, word, inner, line),
         Phase::Functions => take_in_functions(alloc, draft, scratch, word, inner, line),
         Phase::Variables => {
-            take_in_variables(alloc, draft, scratch, word, inner, line, lines_to_end(behind))
+            take_in_variables(
+                alloc,
+                draft,
+                scratch,
+                word,
+                inner,
+                line,
+                lines_to_end(behind),
+            )
         }
         Phase::Commands => take_in_commands(alloc, draft, scratch, word, inner, line),
     }
@@ -645,11 +658,8 @@ pub(crate) fn take_line(
     match draft.phase {
         Phase::Start => Ok(take_first_head(draft, line)),
         Phase::Second => Ok(take_second_head(draft, line)),
-        Phase::Types
-        | Phase::Globals
-        | Phase::Functions
-        | Phase::Variables
-        | Phase::Commands => take_line_of_form(alloc, draft, scratch, line, behind),
+        Phase::Types | Phase::Globals | Phase::Functions | Phase::Variables | Phase::Commands =>
+            take_line_of_form(alloc, draft, scratch, line, behind),
     }
 }
 
@@ -679,7 +689,10 @@ pub(crate) fn type_count(draft: &Draft) -> usize
 pub(crate) fn is_whole(draft: &Draft) -> bool
     ensures { result ≡ is_whole draft.now.phase }
 {
-    matches!(draft.phase, Phase::Types | Phase::Globals | Phase::Functions)
+    matches!(
+        draft.phase,
+        Phase::Types | Phase::Globals | Phase::Functions
+    )
 }
 
 /// The program that was read.
@@ -688,6 +701,17 @@ pub(crate) fn into_flat(alloc: Global, mut draft: Draft) -> Result<Flat, AllocEr
     ensures { IfOk result (λ flat. flat ≡ flat_of draft) }
 {
     close_global(alloc, &mut draft)?;
-    let Draft { phase: _, types, globals, global: _, functions, function: _ } = draft;
-    Ok(Flat { types, globals, functions })
+    let Draft {
+        phase: _,
+        types,
+        globals,
+        global: _,
+        functions,
+        function: _,
+    } = draft;
+    Ok(Flat {
+        types,
+        globals,
+        functions,
+    })
 }

@@ -4,6 +4,7 @@
 mod command;
 mod cut;
 mod draft;
+mod laws;
 mod line;
 mod number;
 mod parse;
@@ -11,6 +12,7 @@ mod print;
 mod put;
 mod word;
 
+pub use laws::texts_tell_programs_apart;
 pub use parse::{FlatFault, parse_flat};
 pub use print::print_flat;
 pub use put::Argument;

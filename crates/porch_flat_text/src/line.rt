@@ -7,12 +7,12 @@ ghost use Rattle.porch_flat_text.specs.Arguments.{argument_of};
 ghost use Rattle.porch_flat_text.specs.Text.{number, result_type, row, row_text, type_row, init_row, line_text};
 
 use crate::put::{
-    Argument, number, put_argument, put_end, put_four, put_further, put_numbers, put_three, put_two,
-    put_word,
+    Argument, number, put_argument, put_end, put_four, put_further, put_numbers, put_three,
+    put_two, put_word,
 };
 use crate::word::Word;
-use porch_flat::{Init, Operand};
 use porch_flat::whole::Function;
+use porch_flat::{Init, Operand};
 use porch_types::Ty;
 use std::alloc::AllocError;
 
@@ -32,11 +32,22 @@ pub(crate) fn put_type(out: &mut Vec<u8>, n: u64, ty: &Ty) -> Result<(), AllocEr
 {
     match ty {
         Ty::Whole { kind } => {
-            put_two(out, Word::Pointer, Argument::Number(n), number(kind.number()))
+            put_two(
+                out,
+                Word::Pointer,
+                Argument::Number(n),
+                number(kind.number()),
+            )
         }
         Ty::Pointer { to } => put_two(out, Word::Pointer, Argument::Number(n), number(*to)),
         Ty::Array { of, count } => {
-            put_three(out, Word::Array, Argument::Number(n), number(*of), number(*count))
+            put_three(
+                out,
+                Word::Array,
+                Argument::Number(n),
+                number(*of),
+                number(*count),
+            )
         }
         Ty::Struct { members } => put_struct(out, n, members.as_slice()),
     }

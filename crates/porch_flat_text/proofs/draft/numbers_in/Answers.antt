@@ -13,6 +13,6 @@ loop-preserved c =
 pub returns : goal.returns
 returns c =
     elim c.loop-test.branch [
-        else-loop-test w ↦ list_done number_in c.loop.numbers.items c.loop.rest.now (length c.args.inner.now - c.loop.counter) _ (inl (omega arith)) c.loop.invariant
+      | else-loop-test w ↦ list_done number_in c.loop.numbers.items c.loop.rest.now (length c.args.inner.now - c.loop.counter) _ (inl (omega arith)) c.loop.invariant
       | then-loop-test+then-is_empty w ↦ list_done number_in c.loop.numbers.items c.loop.rest.now (length c.args.inner.now - c.loop.counter) _ (inr (grind arith)) c.loop.invariant
     ]
