@@ -52,15 +52,15 @@ pub(crate) fn first_line(text: &[u8]) -> Option<(&[u8], &[u8])>
     None
 }
 
-/// How many lines there are up to one that begins as `END();` does. It is a hint at the room that the commands of a
-/// function take.
+/// How many lines there are up to one that begins as `END();` does, no more than there is room for: the shortest
+/// command has eight bytes. It is a hint at the room that the commands of a function take.
 pub(crate) fn lines_to_end(text: &[u8]) -> usize {
     let mut lines = 0usize;
     let mut last = 0;
     let mut before = 0;
-    for byte in text {
+    for (at, byte) in text.iter().enumerate() {
         if before == b'\n' && last == b'E' && *byte == b'N' {
-            return lines;
+            return lines.min(at / 8);
         }
         if *byte == b'\n' {
             lines = lines.saturating_add(1);
@@ -68,5 +68,5 @@ pub(crate) fn lines_to_end(text: &[u8]) -> usize {
         before = last;
         last = *byte;
     }
-    lines
+    lines.min(text.len() / 8)
 }

@@ -378,13 +378,13 @@ fn take_begin(
     draft: &mut Draft,
     scratch: &mut Vec<u8>,
     line: &[u8],
-    room: usize,
+    behind: &[u8],
 ) -> Result<bool, AllocError>
     ensures { IfOk result (λ taken. Taken (with_begin draft.old line.now) taken draft.new) }
 {
     scratch.clear();
     put_none(scratch, Word::Begin)?;
-    draft.function.commands = Items::from_vec(Vec::with_capacity(alloc, room)?);
+    draft.function.commands = Items::from_vec(Vec::with_capacity(alloc, lines_to_end(behind))?);
     draft.phase = Phase::Commands;
     Ok(scratch.as_slice() == line)
 }
@@ -548,7 +548,7 @@ fn take_in_variables(
     word: Word,
     inner: &[u8],
     line: &[u8],
-    room: usize,
+    behind: &[u8],
 ) -> Result<bool, AllocError>
     ensures { IfOk result
         (λ taken. Taken (next_in draft.old Phase.Variables word inner.now line.now) taken draft.new) }
@@ -556,7 +556,7 @@ fn take_in_variables(
     if is_variable_word(word) {
         take_variable(draft, scratch, inner, line)
     } else if is_begin_word(word) {
-        take_begin(alloc, draft, scratch, line, room)
+        take_begin(alloc, draft, scratch, line, behind)
     } else {
         Ok(false)
     }
@@ -598,17 +598,7 @@ fn take_form(
         Phase::Types => take_in_types(alloc, draft, scratch, word, inner, line),
         Phase::Globals => take_in_globals(alloc, draft, scratch, word, inner, line),
         Phase::Functions => take_in_functions(alloc, draft, scratch, word, inner, line),
-        Phase::Variables => {
-            take_in_variables(
-                alloc,
-                draft,
-                scratch,
-                word,
-                inner,
-                line,
-                lines_to_end(behind),
-            )
-        }
+        Phase::Variables => { take_in_variables(alloc, draft, scratch, word, inner, line, behind) }
         Phase::Commands => take_in_commands(alloc, draft, scratch, word, inner, line),
     }
 }
