@@ -4,8 +4,8 @@ use Rattle.std.specs.List.{AllByRecursion}
 use Rattle.porch_flat.specs.declared.flat.Operand.{Operand}
 use Rattle.porch_flat.specs.declared.whole.Command.{Command}
 use Rattle.porch_flat.specs.declared.whole.Command.TheVariants as command
-use Rattle.porch_flat_text.specs.declared.word.Word.TheVariants as word
-use Rattle.porch_flat_text.specs.Text.{Argument, number, variable, argument_text, arguments_text, operand, target, operand_list, Row, command_row}
+use Rattle.porch_flat_line.specs.declared.word.Word.TheVariants as word
+use Rattle.porch_flat_line.specs.Text.{Argument, number, variable, argument_text, arguments_text, operand, target, operand_list, Row, command_row}
 use Rattle.porch_flat_text.specs.Fitting.{ArgumentFits, RowFits}
 use Rattle.porch_flat_text.specs.inside.Numbers.{number_in, variable_in, operand_in, target_in, operand_if_any}
 use Rattle.porch_flat_text.specs.inside.Cuts.{first, rest, each_in}

@@ -18,12 +18,12 @@ use Rattle.porch_flat.specs.declared.whole.Command.TheVariants as command
 use Rattle.porch_flat.specs.declared.whole.Function.{Function}
 use Rattle.porch_flat.specs.whole.Flats.{is_built, is_said, is_function_name, is_name, is_keyword}
 use Rattle.porch_flat.specs.whole.Lines.{Line, type_line, global_line, init_line, function_line, var_line, begin_line, command_line, end_line, type_lines, init_lines, global_lines, var_lines, command_lines, function_lines}
-use Rattle.porch_flat_text.specs.declared.word.Word.{Word}
-use Rattle.porch_flat_text.specs.declared.word.Word.TheVariants as word
+use Rattle.porch_flat_line.specs.declared.word.Word.{Word}
+use Rattle.porch_flat_line.specs.declared.word.Word.TheVariants as word
 use Rattle.porch_flat_text.specs.declared.draft.Draft.{Draft}
 use Rattle.porch_flat_text.specs.declared.draft.Phase.{Phase}
 use Rattle.porch_flat_text.specs.declared.draft.Phase.TheVariants as phase
-use Rattle.porch_flat_text.specs.Text.{Argument, number, name, constant, result_type, Row, row, row_text, type_row, init_row, command_row, arguments_text, line_text, first_head, second_head}
+use Rattle.porch_flat_line.specs.Text.{Argument, number, name, constant, result_type, Row, row, row_text, type_row, init_row, command_row, arguments_text, line_text, first_head, second_head}
 use Rattle.porch_flat_text.specs.Fitting.{TypeFits, GlobalFits, FunctionFits, RowFits, ArgumentFits}
 use Rattle.porch_flat_text.specs.inside.Numbers.{number_in, constant_in, result_type_in}
 use Rattle.porch_flat_text.specs.inside.Cuts.{first, rest, each_in, word_part, inner_part}

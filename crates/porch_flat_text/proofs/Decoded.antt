@@ -11,7 +11,7 @@ use Rattle.std.specs.Int.RustNames.{FitsSigned}
 use mir.Syntax.{w128}
 use Rattle.porch_flat.specs.declared.flat.Operand.{Operand}
 use Rattle.porch_flat.specs.declared.flat.Operand.TheVariants.{Var, Constant}
-use Rattle.porch_flat_text.specs.Text.{Argument, number, variable, constant, nowhere, void, name, argument_text, arguments_text, further_text, operand, target, result_type, operand_list}
+use Rattle.porch_flat_line.specs.Text.{Argument, number, variable, constant, nowhere, void, name, argument_text, arguments_text, further_text, operand, target, result_type, operand_list}
 use Rattle.porch_flat_text.specs.Fitting.{ArgumentFits}
 use Rattle.porch_flat_text.specs.inside.Numbers.{number_after, number_in, magnitude_in, constant_in, variable_in, operand_in, operand_if_any, target_in, result_type_in}
 use Rattle.porch_flat_text.specs.inside.Cuts.{first, rest, each_in}

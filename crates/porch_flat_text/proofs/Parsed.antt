@@ -14,15 +14,15 @@ use Rattle.porch_flat.specs.declared.whole.Function.{Function}
 use Rattle.porch_flat.specs.declared.whole.Flat.{Flat}
 use Rattle.porch_flat.specs.whole.Flats.{IsFlat, is_built, is_said, is_function_name, is_name, is_keyword}
 use Rattle.porch_flat.specs.whole.Lines.{Line, type_lines, init_lines, global_lines, var_lines, command_lines, function_lines, begin_line, lines_of}
-use Rattle.porch_flat_text.specs.declared.word.Word.{Word}
-use Rattle.porch_flat_text.specs.declared.word.Word.TheVariants as word
+use Rattle.porch_flat_line.specs.declared.word.Word.{Word}
+use Rattle.porch_flat_line.specs.declared.word.Word.TheVariants as word
 use Rattle.porch_flat_text.specs.declared.draft.Draft.{Draft}
 use Rattle.porch_flat_text.specs.declared.draft.Phase.{Phase}
 use Rattle.porch_flat_text.specs.declared.draft.Phase.TheVariants as phase
 use Rattle.porch_flat_text.specs.declared.parse.FlatFault.{FlatFault}
 use Rattle.porch_flat_text.specs.declared.parse.FlatFault.TheVariants.{FlatSyntax, NoMemory}
-use Rattle.porch_flat_text.specs.Words.{word_text}
-use Rattle.porch_flat_text.specs.Text.{Argument, number, constant, name, result_type, Row, row, row_text, argument_text, arguments_text, further_text, type_row, init_row, command_row, line_text, first_head, second_head, Text}
+use Rattle.porch_flat_line.specs.Words.{word_text}
+use Rattle.porch_flat_line.specs.Text.{Argument, number, constant, name, result_type, Row, row, row_text, argument_text, arguments_text, further_text, type_row, init_row, command_row, line_text, first_head, second_head, Text}
 use Rattle.porch_flat_text.specs.Fitting.{ArgumentFits, RowFits, TypeFits, GlobalFits, FunctionFits, IsSayable}
 use Rattle.porch_flat_text.specs.FirstWrong.{IsLine, Begins, IsFirstWrongLine}
 use Rattle.porch_flat_text.specs.Parsing.{Gives, IsRefused}

@@ -8,8 +8,8 @@ use Rattle.porch_flat.specs.declared.whole.Command.{Command}
 use Rattle.porch_flat.specs.declared.whole.Function.{Function}
 use Rattle.porch_flat.specs.declared.whole.Flat.{Flat}
 use Rattle.porch_flat.specs.whole.Lines.{Line, type_lines, init_lines, global_lines, var_lines, command_lines, function_lines, begin_line, lines_of}
-use Rattle.porch_flat_text.specs.declared.word.Word.TheVariants as word
-use Rattle.porch_flat_text.specs.Text.{number, row, line_text, row_text, type_row, init_row, command_row, Text, first_head, second_head}
+use Rattle.porch_flat_line.specs.declared.word.Word.TheVariants as word
+use Rattle.porch_flat_line.specs.Text.{number, row, line_text, row_text, type_row, init_row, command_row, Text, first_head, second_head}
 use Rattle.porch_flat_text.specs.inside.Texts.{types_text, inits_text, global_head, global_text, globals_text, vars_text, commands_text, begin_text, end_text, head_text, function_text, functions_text, flat_text}
 
 texts_append : (xs ys : List Line) → flat_map line_text (xs ++ ys) ≡ flat_map line_text xs ++ flat_map line_text ys

@@ -5,8 +5,8 @@ use Rattle.porch_flat.specs.declared.flat.GlobalObject.{GlobalObject}
 use Rattle.porch_flat.specs.declared.flat.Init.{Init}
 use Rattle.porch_flat.specs.declared.whole.Command.{Command}
 use Rattle.porch_flat.specs.declared.whole.Function.{Function}
-use Rattle.porch_flat_text.specs.declared.word.Word.TheVariants as word
-use Rattle.porch_flat_text.specs.Text.{number, row, row_text, type_row, init_row, command_row}
+use Rattle.porch_flat_line.specs.declared.word.Word.TheVariants as word
+use Rattle.porch_flat_line.specs.Text.{number, row, row_text, type_row, init_row, command_row}
 use Rattle.porch_flat_text.specs.inside.Texts.{types_text, inits_text, global_text, globals_text, vars_text, commands_text, function_text, functions_text}
 
 module _ {X : Type 0} (text : ℕ → X → List ℕ) (all : ℕ → List X → List ℕ) (none : (n : ℕ) → all n [] ≡ []) (more : (n : ℕ) (x : X) (xs : List X) → all n (x ∷ xs) ≡ text n x ++ all (n + 1) xs) where

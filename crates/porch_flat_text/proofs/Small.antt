@@ -8,9 +8,9 @@ use Rattle.porch_flat.specs.declared.flat.Operand.{Operand}
 use Rattle.porch_flat.specs.declared.flat.Operand.TheVariants.{Var, Constant}
 use Rattle.porch_flat.specs.declared.whole.Command.{Command}
 use Rattle.porch_flat.specs.declared.whole.Command.TheVariants as command
-use Rattle.porch_flat_text.specs.declared.word.Word.{Word}
-use Rattle.porch_flat_text.specs.declared.word.Word.TheVariants as word
-use Rattle.porch_flat_text.specs.Text.{Argument, number, variable, constant, operand, target, result_type, operand_list, command_row}
+use Rattle.porch_flat_line.specs.declared.word.Word.{Word}
+use Rattle.porch_flat_line.specs.declared.word.Word.TheVariants as word
+use Rattle.porch_flat_line.specs.Text.{Argument, number, variable, constant, operand, target, result_type, operand_list, command_row}
 use Rattle.porch_flat_text.specs.Fitting.{ArgumentFits, RowFits}
 use Rattle.porch_flat_text.specs.inside.Numbers.{number_after, number_in, magnitude_in, constant_in, variable_in, operand_in, operand_if_any, target_in, result_type_in}
 use Rattle.porch_flat_text.specs.inside.Cuts.{first, rest, each_in}

@@ -15,12 +15,12 @@ use Rattle.porch_flat.specs.declared.flat.Init.{Init}
 use Rattle.porch_flat.specs.declared.whole.Command.{Command}
 use Rattle.porch_flat.specs.declared.whole.Function.{Function}
 use Rattle.porch_flat.specs.whole.Flats.{is_built, is_said, is_function_name}
-use Rattle.porch_flat_text.specs.declared.word.Word.{Word}
-use Rattle.porch_flat_text.specs.declared.word.Word.TheVariants as word
+use Rattle.porch_flat_line.specs.declared.word.Word.{Word}
+use Rattle.porch_flat_line.specs.declared.word.Word.TheVariants as word
 use Rattle.porch_flat_text.specs.declared.draft.Draft.{Draft}
 use Rattle.porch_flat_text.specs.declared.draft.Phase.{Phase}
 use Rattle.porch_flat_text.specs.declared.draft.Phase.TheVariants as phase
-use Rattle.porch_flat_text.specs.Text.{number, row, row_text, type_row, init_row, command_row, first_head, second_head}
+use Rattle.porch_flat_line.specs.Text.{number, row, row_text, type_row, init_row, command_row, first_head, second_head}
 use Rattle.porch_flat_text.specs.Fitting.{TypeFits, GlobalFits, FunctionFits, RowFits, ArgumentFits}
 use Rattle.porch_flat_text.specs.inside.Numbers.{number_in, constant_in, result_type_in}
 use Rattle.porch_flat_text.specs.inside.Cuts.{first, rest, each_in, word_part, inner_part}

@@ -9,10 +9,10 @@ use Rattle.std.specs.Str.Parse.{AllDigits}
 use Rattle.std.specs.List.{list_all, AllByRecursion}
 use lib.IntN.{pos, negsuc}
 use Rattle.porch_flat.specs.whole.Flats.{is_name, is_letter, is_digit}
-use Rattle.porch_flat_text.specs.declared.word.Word.{Word}
-use Rattle.porch_flat_text.specs.declared.word.Word.TheVariants as word
-use Rattle.porch_flat_text.specs.Words.{word_text}
-use Rattle.porch_flat_text.specs.Text.{Argument, number, variable, constant, nowhere, void, name, argument_text, arguments_text, further_text, Row, row, row_text}
+use Rattle.porch_flat_line.specs.declared.word.Word.{Word}
+use Rattle.porch_flat_line.specs.declared.word.Word.TheVariants as word
+use Rattle.porch_flat_line.specs.Words.{word_text}
+use Rattle.porch_flat_line.specs.Text.{Argument, number, variable, constant, nowhere, void, name, argument_text, arguments_text, further_text, Row, row, row_text}
 use Rattle.porch_flat_text.specs.Fitting.{ArgumentFits, RowFits}
 use Rattle.porch_flat_text.specs.inside.Cuts.{before, behind, word_part, inner_part, first, rest}
 use Rattle.porch_flat_text.specs.inside.FoundWords.{word_from}

@@ -2,7 +2,7 @@
 use Rattle.std.specs.Prelude.{◌≡◌, ◌≢◌, ℕ, ◌+◌, List, [], ◌∷◌, ◌++◌, length}
 use Rattle.std.specs.List.{concat, AllByRecursion}
 use Rattle.porch_flat.specs.declared.whole.Flat.{Flat}
-use Rattle.porch_flat_text.specs.Text.{Text}
+use Rattle.porch_flat_line.specs.Text.{Text}
 use Rattle.porch_flat_text.specs.Fitting.{IsSayable}
 
 -- one line: a newline at its end, and no other

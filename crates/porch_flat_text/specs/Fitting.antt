@@ -10,7 +10,7 @@ use Rattle.porch_flat.specs.declared.whole.Command.{Command}
 use Rattle.porch_flat.specs.declared.whole.Function.{Function}
 use Rattle.porch_flat.specs.declared.whole.Flat.{Flat}
 use Rattle.porch_flat.specs.whole.Flats.{IsFlat, is_name}
-use Rattle.porch_flat_text.specs.Text.{Argument, number, variable, constant, nowhere, void, name, Row, row, type_row, init_row, command_row, result_type}
+use Rattle.porch_flat_line.specs.Text.{Argument, number, variable, constant, nowhere, void, name, Row, row, type_row, init_row, command_row, result_type}
 
 abbrev pub ArgumentFits : Argument → Type 0
 ArgumentFits (number n) = n < 2 ^ 32

@@ -6,20 +6,21 @@ ghost use Rattle.std.specs.Str.{bytes_eq};
 ghost use Rattle.porch_types.specs.Leaves.{IsTypes};
 ghost use Rattle.porch_flat.specs.whole.Flats.{is_letter, is_digit, is_name, is_keyword, is_function_name, is_said};
 ghost use Rattle.porch_flat.specs.whole.Lines.{function_line};
-ghost use Rattle.porch_flat_text.specs.Text.{row, row_text, type_row, init_row, line_text, number};
+ghost use Rattle.porch_flat_line.specs.Text.{row, row_text, type_row, init_row, line_text, number};
 ghost use Rattle.porch_flat_text.specs.inside.Drafts.{empty_draft, empty_global, empty_function, globals_of, Added, Taken, type_from, init_from, function_from, with_type, with_global, with_init, with_function, with_variable, with_begin, with_some_command, with_command, with_end, is_type_word, is_init_word, is_word, next_in, next_form, next_at, next, is_whole, flat_of};
 ghost use Rattle.porch_flat_text.specs.inside.Cuts.{each_in};
 ghost use Rattle.porch_flat_text.specs.inside.Numbers.{number_in};
 ghost use Rattle.porch_types.specs.Adding.{add_fault};
 
-use crate::command::{command_in, put_command};
+use crate::command::command_in;
 use crate::cut::{lines_to_end, next_argument, parts_of};
-use crate::line::{put_head, put_init, put_type};
+use crate::find::word_of;
 use crate::number::{constant_in, number_in, result_type_in};
-use crate::put::{Argument, number, put_none, put_two};
-use crate::word::{Word, word_of};
 use porch_flat::whole::{Command, Flat, Function};
 use porch_flat::{GlobalObject, Init};
+use porch_flat_line::{
+    Argument, Word, number, put_command, put_head, put_init, put_none, put_two, put_type,
+};
 use porch_types::{Members, Ty, TypeFault, Types};
 use sqlite_items::Items;
 use std::alloc::{AllocError, Global};

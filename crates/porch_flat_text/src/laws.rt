@@ -2,7 +2,7 @@
 
 ghost use Rattle.std.specs.Prelude.{◌≡◌};
 ghost use Rattle.porch_flat.specs.declared.whole.Flat.{Flat};
-ghost use Rattle.porch_flat_text.specs.Text.{Text};
+ghost use Rattle.porch_flat_line.specs.Text.{Text};
 ghost use Rattle.porch_flat_text.specs.Fitting.{IsSayable};
 
 /// Two programs with one text are one.

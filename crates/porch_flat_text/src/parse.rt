@@ -2,7 +2,7 @@
 
 ghost use Rattle.std.specs.Prelude.{◌≡◌, IfOk, IfErr};
 ghost use Rattle.porch_flat.specs.declared.whole.Flat.{Flat};
-ghost use Rattle.porch_flat_text.specs.Text.{Text};
+ghost use Rattle.porch_flat_line.specs.Text.{Text};
 ghost use Rattle.porch_flat_text.specs.Fitting.{IsSayable};
 ghost use Rattle.porch_flat_text.specs.Parsing.{Gives, IsRefused};
 ghost use Rattle.porch_flat_text.specs.inside.Reads.{HasRead, IsEnded, IsParsed, IsRefusedBy, IsStoppedBy};

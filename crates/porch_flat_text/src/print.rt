@@ -1,16 +1,15 @@
 //! The text of a program.
 
 ghost use Rattle.std.specs.Prelude.{◌≡◌, ◌++◌, ◌∷◌, [], codes, drop, OnOk, IfOk};
-ghost use Rattle.porch_flat_text.specs.Text.{Text, first_head, second_head};
+ghost use Rattle.porch_flat_line.specs.Text.{Text, first_head, second_head};
 ghost use Rattle.porch_flat_text.specs.inside.Texts.{types_text, inits_text, global_text, globals_text, vars_text, commands_text, function_text, functions_text, flat_text};
 
-use crate::command::put_command;
 use crate::draft::{FIRST_HEAD, SECOND_HEAD};
-use crate::line::{put_head, put_init, put_type};
-use crate::put::{Argument, number, put_none, put_two};
-use crate::word::Word;
 use porch_flat::whole::{Command, Flat, Function};
 use porch_flat::{GlobalObject, Init};
+use porch_flat_line::{
+    Argument, Word, number, put_command, put_head, put_init, put_none, put_two, put_type,
+};
 use porch_types::Types;
 use std::alloc::{AllocError, Global};
 

@@ -2,8 +2,8 @@
 use Rattle.std.specs.Prelude.{ℕ, List, length, Option, Some, None}
 use Rattle.porch_flat.specs.declared.whole.Command.{Command}
 use Rattle.porch_flat.specs.declared.whole.Command.TheVariants as command
-use Rattle.porch_flat_text.specs.declared.word.Word.{Word}
-use Rattle.porch_flat_text.specs.declared.word.Word.TheVariants as word
+use Rattle.porch_flat_line.specs.declared.word.Word.{Word}
+use Rattle.porch_flat_line.specs.declared.word.Word.TheVariants as word
 use Rattle.porch_flat_text.specs.inside.Numbers.{number_in, variable_in, operand_in, operand_if_any, target_in}
 use Rattle.porch_flat_text.specs.inside.Cuts.{first, rest, each_in}
 

@@ -15,12 +15,12 @@ use Rattle.porch_flat.specs.declared.whole.Function.{Function}
 use Rattle.porch_flat.specs.declared.whole.Flat.{Flat}
 use Rattle.porch_flat.specs.whole.Flats.{is_function_name, is_said}
 use Rattle.porch_flat.specs.whole.Lines.{function_line}
-use Rattle.porch_flat_text.specs.declared.word.Word.{Word}
-use Rattle.porch_flat_text.specs.declared.word.Word.TheVariants as word
+use Rattle.porch_flat_line.specs.declared.word.Word.{Word}
+use Rattle.porch_flat_line.specs.declared.word.Word.TheVariants as word
 use Rattle.porch_flat_text.specs.declared.draft.Draft.{Draft}
 use Rattle.porch_flat_text.specs.declared.draft.Phase.{Phase}
 use Rattle.porch_flat_text.specs.declared.draft.Phase.TheVariants as phase
-use Rattle.porch_flat_text.specs.Text.{number, Row, row, row_text, type_row, init_row, line_text, command_row, first_head, second_head}
+use Rattle.porch_flat_line.specs.Text.{number, Row, row, row_text, type_row, init_row, line_text, command_row, first_head, second_head}
 use Rattle.porch_flat_text.specs.inside.FoundWords.{word_from}
 use Rattle.porch_flat_text.specs.inside.Numbers.{number_in, constant_in, result_type_in}
 use Rattle.porch_flat_text.specs.inside.Cuts.{word_part, inner_part, first, rest, each_in}

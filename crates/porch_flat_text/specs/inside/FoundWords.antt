@@ -1,8 +1,8 @@
 -- The word that bytes are, found by their number and then one by one.
 use Rattle.std.specs.Prelude.{ℕ, ◌==◌, if◌then◌else◌, List, length, codes, Option, Some, None}
 use Rattle.std.specs.Str.{bytes_eq}
-use Rattle.porch_flat_text.specs.declared.word.Word.{Word}
-use Rattle.porch_flat_text.specs.declared.word.Word.TheVariants as word
+use Rattle.porch_flat_line.specs.declared.word.Word.{Word}
+use Rattle.porch_flat_line.specs.declared.word.Word.TheVariants as word
 
 abbrev pub word_of_two : List ℕ → Option Word
 word_of_two name =

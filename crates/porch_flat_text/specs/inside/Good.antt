@@ -7,7 +7,7 @@ use Rattle.porch_flat.specs.whole.Flats.{is_built, is_said, is_function_name}
 use Rattle.porch_flat_text.specs.declared.draft.Draft.{Draft}
 use Rattle.porch_flat_text.specs.declared.draft.Phase.{Phase}
 use Rattle.porch_flat_text.specs.declared.draft.Phase.TheVariants as phase
-use Rattle.porch_flat_text.specs.Text.{first_head, second_head}
+use Rattle.porch_flat_line.specs.Text.{first_head, second_head}
 use Rattle.porch_flat_text.specs.Fitting.{TypeFits, GlobalFits, FunctionFits}
 use Rattle.porch_flat_text.specs.inside.Texts.{types_text, globals_text, vars_text, commands_text, begin_text, end_text, head_text, functions_text}
 use Rattle.porch_flat_text.specs.inside.Drafts.{globals_of, functions_of}

@@ -7,8 +7,8 @@ use Rattle.porch_flat.specs.declared.whole.Command.{Command}
 use Rattle.porch_flat.specs.declared.whole.Function.{Function}
 use Rattle.porch_flat.specs.declared.whole.Flat.{Flat}
 use Rattle.porch_flat.specs.whole.Lines.{function_line}
-use Rattle.porch_flat_text.specs.declared.word.Word.TheVariants as word
-use Rattle.porch_flat_text.specs.Text.{number, row, row_text, type_row, init_row, command_row, line_text, first_head, second_head}
+use Rattle.porch_flat_line.specs.declared.word.Word.TheVariants as word
+use Rattle.porch_flat_line.specs.Text.{number, row, row_text, type_row, init_row, command_row, line_text, first_head, second_head}
 
 abbrev pub types_text : ℕ → List Ty → List ℕ
 types_text n [] = []

@@ -1,7 +1,7 @@
 -- The arguments that code has in hand, as the text sees them.
-use Rattle.porch_flat_text.specs.declared.put.Argument.{Argument as HeldArgument}
-use Rattle.porch_flat_text.specs.declared.put.Argument.TheVariants as held
-use Rattle.porch_flat_text.specs.Text.{Argument, number, nowhere, void, operand}
+use Rattle.porch_flat_line.specs.declared.put.Argument.{Argument as HeldArgument}
+use Rattle.porch_flat_line.specs.declared.put.Argument.TheVariants as held
+use Rattle.porch_flat_line.specs.Text.{Argument, number, nowhere, void, operand}
 
 abbrev pub argument_of : HeldArgument → Argument
 argument_of (held.Number n) = number n

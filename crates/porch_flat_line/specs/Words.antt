@@ -1,7 +1,7 @@
 -- The words that lines begin with, as they are written.
 use Rattle.std.specs.Prelude.{ℕ, List, codes}
-use Rattle.porch_flat_text.specs.declared.word.Word.{Word}
-use Rattle.porch_flat_text.specs.declared.word.Word.TheVariants as word
+use Rattle.porch_flat_line.specs.declared.word.Word.{Word}
+use Rattle.porch_flat_line.specs.declared.word.Word.TheVariants as word
 
 abbrev pub word_text : Word → List ℕ
 word_text word.Pointer = codes "POINTER"

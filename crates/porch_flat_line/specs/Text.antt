@@ -15,9 +15,9 @@ use Rattle.porch_flat.specs.declared.whole.Command.TheVariants as command
 use Rattle.porch_flat.specs.declared.whole.Function.{Function}
 use Rattle.porch_flat.specs.declared.whole.Flat.{Flat}
 use Rattle.porch_flat.specs.whole.Lines.{Line, type_line, global_line, init_line, function_line, var_line, begin_line, command_line, end_line, lines_of}
-use Rattle.porch_flat_text.specs.declared.word.Word.{Word}
-use Rattle.porch_flat_text.specs.declared.word.Word.TheVariants as word
-use Rattle.porch_flat_text.specs.Words.{word_text}
+use Rattle.porch_flat_line.specs.declared.word.Word.{Word}
+use Rattle.porch_flat_line.specs.declared.word.Word.TheVariants as word
+use Rattle.porch_flat_line.specs.Words.{word_text}
 
 -- an argument of a form
 pub data Argument : Type 0 where

@@ -2,9 +2,9 @@
 
 ghost use Rattle.std.specs.Prelude.{◌≡◌, ◌++◌, ◌∷◌, [], codes, map, OnOk};
 ghost use Rattle.std.specs.Fmt.{decimal, signed_decimal};
-ghost use Rattle.porch_flat_text.specs.Words.{word_text};
-ghost use Rattle.porch_flat_text.specs.Text.{operand, number, variable, argument_text, arguments_text, further_text, row, row_text};
-ghost use Rattle.porch_flat_text.specs.Arguments.{argument_of};
+ghost use Rattle.porch_flat_line.specs.Words.{word_text};
+ghost use Rattle.porch_flat_line.specs.Text.{operand, number, variable, argument_text, arguments_text, further_text, row, row_text};
+ghost use Rattle.porch_flat_line.specs.Arguments.{argument_of};
 
 use crate::word::{Word, text_of_word};
 use itoa::Buffer;
@@ -23,14 +23,14 @@ pub enum Argument {
 }
 
 /// The argument that is a variable.
-pub(crate) fn variable(number: u32) -> Argument
+pub fn variable(number: u32) -> Argument
     ensures { argument_of result ≡ variable number }
 {
     Argument::Operand(Operand::Var(number))
 }
 
 /// The argument that is a number.
-pub(crate) fn number(value: u32) -> Argument
+pub fn number(value: u32) -> Argument
     ensures { argument_of result ≡ number value }
 {
     Argument::Number(u64::from(value))
@@ -99,7 +99,7 @@ pub(crate) fn put_end(out: &mut Vec<u8>) -> Result<(), AllocError>
 }
 
 /// Writes a line without arguments.
-pub(crate) fn put_none(out: &mut Vec<u8>, word: Word) -> Result<(), AllocError>
+pub fn put_none(out: &mut Vec<u8>, word: Word) -> Result<(), AllocError>
     ensures { OnOk result (out.new.items ≡ out.old.items ++ row_text (row word [])) }
 {
     put_word(out, word)?;
@@ -117,7 +117,7 @@ pub(crate) fn put_one(out: &mut Vec<u8>, word: Word, a: Argument) -> Result<(), 
 }
 
 /// Writes a line of two arguments.
-pub(crate) fn put_two(
+pub fn put_two(
     out: &mut Vec<u8>,
     word: Word,
     a: Argument,

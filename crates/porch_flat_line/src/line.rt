@@ -3,8 +3,8 @@
 ghost use Rattle.std.specs.Prelude.{◌≡◌, ◌++◌, ◌∷◌, [], codes, map, OnOk};
 ghost use Rattle.porch_types.specs.Kinds.{kind_number};
 ghost use Rattle.porch_flat.specs.whole.Lines.{function_line};
-ghost use Rattle.porch_flat_text.specs.Arguments.{argument_of};
-ghost use Rattle.porch_flat_text.specs.Text.{number, result_type, row, row_text, type_row, init_row, line_text};
+ghost use Rattle.porch_flat_line.specs.Arguments.{argument_of};
+ghost use Rattle.porch_flat_line.specs.Text.{number, result_type, row, row_text, type_row, init_row, line_text};
 
 use crate::put::{
     Argument, number, put_argument, put_end, put_four, put_further, put_numbers, put_three,
@@ -27,7 +27,7 @@ fn put_struct(out: &mut Vec<u8>, n: u64, members: &[u32]) -> Result<(), AllocErr
 }
 
 /// Writes the line of type number `n`.
-pub(crate) fn put_type(out: &mut Vec<u8>, n: u64, ty: &Ty) -> Result<(), AllocError>
+pub fn put_type(out: &mut Vec<u8>, n: u64, ty: &Ty) -> Result<(), AllocError>
     ensures { OnOk result (out.new.items ≡ out.old.items ++ row_text (type_row n ty.now)) }
 {
     match ty {
@@ -54,7 +54,7 @@ pub(crate) fn put_type(out: &mut Vec<u8>, n: u64, ty: &Ty) -> Result<(), AllocEr
 }
 
 /// Writes the line of an initial value of global number `n`.
-pub(crate) fn put_init(out: &mut Vec<u8>, n: u64, init: Init) -> Result<(), AllocError>
+pub fn put_init(out: &mut Vec<u8>, n: u64, init: Init) -> Result<(), AllocError>
     ensures { OnOk result (out.new.items ≡ out.old.items ++ row_text (init_row n init)) }
 {
     match init {
@@ -90,7 +90,7 @@ fn argument_of_result(ty: Option<u32>) -> Argument
 }
 
 /// Writes the first line of function number `n`.
-pub(crate) fn put_head(out: &mut Vec<u8>, n: u64, function: &Function) -> Result<(), AllocError>
+pub fn put_head(out: &mut Vec<u8>, n: u64, function: &Function) -> Result<(), AllocError>
     ensures { OnOk result (out.new.items
         ≡ out.old.items ++ line_text (function_line n function.now)) }
 {
