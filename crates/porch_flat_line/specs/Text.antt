@@ -152,8 +152,11 @@ line_text line = row_text (line_row line)
 abbrev pub first_head : List ℕ
 first_head = codes "/* porch flat text, version 1 */\n"
 
+abbrev pub QUOTE : ℕ
+QUOTE = 34
+
 abbrev pub second_head : List ℕ
-second_head = codes "#include \"porch.h\"\n"
+second_head = codes "#include " ++ (QUOTE ∷ (codes "porch.h" ++ (QUOTE ∷ codes "\n")))
 
 abbrev pub Text : Flat → List ℕ
 Text flat = first_head ++ (second_head ++ flat_map line_text (lines_of flat))

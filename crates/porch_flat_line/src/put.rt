@@ -117,12 +117,7 @@ pub(crate) fn put_one(out: &mut Vec<u8>, word: Word, a: Argument) -> Result<(), 
 }
 
 /// Writes a line of two arguments.
-pub fn put_two(
-    out: &mut Vec<u8>,
-    word: Word,
-    a: Argument,
-    b: Argument,
-) -> Result<(), AllocError>
+pub fn put_two(out: &mut Vec<u8>, word: Word, a: Argument, b: Argument) -> Result<(), AllocError>
     ensures { OnOk result (out.new.items
         ≡ out.old.items ++ row_text (row word (argument_of a ∷ argument_of b ∷ []))) }
 {
@@ -160,7 +155,8 @@ pub(crate) fn put_four(
     d: Argument,
 ) -> Result<(), AllocError>
     ensures { OnOk result (out.new.items ≡ out.old.items
-        ++ row_text (row word (argument_of a ∷ argument_of b ∷ argument_of c ∷ argument_of d ∷ []))) }
+        ++ row_text (row word
+        (argument_of a ∷ argument_of b ∷ argument_of c ∷ argument_of d ∷ []))) }
 {
     put_word(out, word)?;
     put_argument(out, a)?;

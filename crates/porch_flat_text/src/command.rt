@@ -95,7 +95,8 @@ fn operands_in(alloc: Global, inner: &[u8]) -> Result<Items<Operand>, AllocError
 
 /// All variables that are written here.
 fn variables_in(alloc: Global, inner: &[u8]) -> Result<Items<u32>, AllocError>
-    ensures { IfOk result (λ variables. variables ≡ each_in variable_in (length inner.now) inner.now) }
+    ensures { IfOk result
+        (λ variables. variables ≡ each_in variable_in (length inner.now) inner.now) }
 {
     let mut variables = Vec::new(alloc);
     let mut rest = inner;

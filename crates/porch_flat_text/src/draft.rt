@@ -125,7 +125,8 @@ fn is_function_name(name: &[u8]) -> bool
 }
 
 fn numbers_in(alloc: Global, inner: &[u8]) -> Result<Vec<u32>, AllocError>
-    ensures { IfOk result (λ numbers. numbers.items ≡ each_in number_in (length inner.now) inner.now) }
+    ensures { IfOk result
+        (λ numbers. numbers.items ≡ each_in number_in (length inner.now) inner.now) }
 {
     let mut numbers = Vec::new(alloc);
     let mut rest = inner;
@@ -196,7 +197,8 @@ fn take_type(
     inner: &[u8],
     line: &[u8],
 ) -> Result<bool, AllocError>
-    ensures { IfOk result (λ taken. Taken (with_type draft.old word inner.now line.now) taken draft.new) }
+    ensures { IfOk result
+        (λ taken. Taken (with_type draft.old word inner.now line.now) taken draft.new) }
 {
     let ty = type_in(alloc, word, inner)?;
     let n = draft.types.len();
@@ -255,7 +257,8 @@ fn take_global(
     inner: &[u8],
     line: &[u8],
 ) -> Result<bool, AllocError>
-    ensures { IfOk result (λ taken. Taken (with_global draft.old inner.now line.now) taken draft.new) }
+    ensures { IfOk result
+        (λ taken. Taken (with_global draft.old inner.now line.now) taken draft.new) }
 {
     close_global(alloc, draft)?;
     let (_, rest) = next_argument(inner);
@@ -305,7 +308,8 @@ fn take_init(
     inner: &[u8],
     line: &[u8],
 ) -> Result<bool, AllocError>
-    ensures { IfOk result (λ taken. Taken (with_init draft.old word inner.now line.now) taken draft.new) }
+    ensures { IfOk result
+        (λ taken. Taken (with_init draft.old word inner.now line.now) taken draft.new) }
 {
     let init = init_in(word, inner);
     scratch.clear();
@@ -339,7 +343,8 @@ fn take_function(
     inner: &[u8],
     line: &[u8],
 ) -> Result<bool, AllocError>
-    ensures { IfOk result (λ taken. Taken (with_function draft.old inner.now line.now) taken draft.new) }
+    ensures { IfOk result
+        (λ taken. Taken (with_function draft.old inner.now line.now) taken draft.new) }
 {
     close_global(alloc, draft)?;
     draft.function = function_in(alloc, inner)?;
@@ -361,7 +366,8 @@ fn take_variable(
     inner: &[u8],
     line: &[u8],
 ) -> Result<bool, AllocError>
-    ensures { IfOk result (λ taken. Taken (with_variable draft.old inner.now line.now) taken draft.new) }
+    ensures { IfOk result
+        (λ taken. Taken (with_variable draft.old inner.now line.now) taken draft.new) }
 {
     let (_, rest) = next_argument(inner);
     let (ty, _) = next_argument(rest);
@@ -397,7 +403,8 @@ fn add_command(
     command: Command,
     line: &[u8],
 ) -> Result<bool, AllocError>
-    ensures { IfOk result (λ taken. Taken (with_some_command draft.old (Some command) line.now) taken draft.new) }
+    ensures { IfOk result
+        (λ taken. Taken (with_some_command draft.old (Some command) line.now) taken draft.new) }
 {
     scratch.clear();
     put_command(scratch, &command)?;
@@ -413,7 +420,8 @@ fn take_command(
     inner: &[u8],
     line: &[u8],
 ) -> Result<bool, AllocError>
-    ensures { IfOk result (λ taken. Taken (with_command draft.old word inner.now line.now) taken draft.new) }
+    ensures { IfOk result
+        (λ taken. Taken (with_command draft.old word inner.now line.now) taken draft.new) }
 {
     match command_in(alloc, word, inner)? {
         None => Ok(false),
@@ -532,8 +540,8 @@ fn take_in_functions(
     inner: &[u8],
     line: &[u8],
 ) -> Result<bool, AllocError>
-    ensures { IfOk result
-        (λ taken. Taken (next_in draft.old Phase.Functions word inner.now line.now) taken draft.new) }
+    ensures { IfOk result (λ taken.
+        Taken (next_in draft.old Phase.Functions word inner.now line.now) taken draft.new) }
 {
     if is_function_word(word) {
         take_function(alloc, draft, scratch, inner, line)
@@ -551,8 +559,8 @@ fn take_in_variables(
     line: &[u8],
     behind: &[u8],
 ) -> Result<bool, AllocError>
-    ensures { IfOk result
-        (λ taken. Taken (next_in draft.old Phase.Variables word inner.now line.now) taken draft.new) }
+    ensures { IfOk result (λ taken.
+        Taken (next_in draft.old Phase.Variables word inner.now line.now) taken draft.new) }
 {
     if is_variable_word(word) {
         take_variable(draft, scratch, inner, line)
@@ -571,8 +579,8 @@ fn take_in_commands(
     inner: &[u8],
     line: &[u8],
 ) -> Result<bool, AllocError>
-    ensures { IfOk result
-        (λ taken. Taken (next_in draft.old Phase.Commands word inner.now line.now) taken draft.new) }
+    ensures { IfOk result (λ taken.
+        Taken (next_in draft.old Phase.Commands word inner.now line.now) taken draft.new) }
 {
     if is_end_word(word) {
         take_end(alloc, draft, scratch, line)
