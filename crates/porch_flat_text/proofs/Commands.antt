@@ -1,13 +1,13 @@
 -- What is written of a command is read again.
-use Rattle.std.proofs.Common.{◌≡◌, ℕ, List, [], ◌∷◌, map, length, Option, Some, None, refl, ap, ◌∙◌}
+use Rattle.std.proofs.Common.{◌≡◌, ℕ, List, [], ◌∷◌, map, length, Option, Some, refl, ap, ◌∙◌}
 use Rattle.std.specs.List.{AllByRecursion}
 use Rattle.porch_flat.specs.declared.flat.Operand.{Operand}
 use Rattle.porch_flat.specs.declared.whole.Command.{Command}
 use Rattle.porch_flat.specs.declared.whole.Command.TheVariants as command
 use Rattle.porch_flat_line.specs.declared.word.Word.TheVariants as word
-use Rattle.porch_flat_line.specs.Text.{Argument, number, variable, argument_text, arguments_text, operand, target, operand_list, Row, command_row}
+use Rattle.porch_flat_line.specs.Text.{Argument, number, variable, argument_text, arguments_text, operand, target, command_row}
 use Rattle.porch_flat_text.specs.Fitting.{ArgumentFits, RowFits}
-use Rattle.porch_flat_text.specs.inside.Numbers.{number_in, variable_in, operand_in, target_in, operand_if_any}
+use Rattle.porch_flat_text.specs.inside.Numbers.{number_in, variable_in, operand_in, target_in}
 use Rattle.porch_flat_text.specs.inside.Cuts.{first, rest, each_in}
 use Rattle.porch_flat_text.specs.inside.Commands.{command_from}
 use Rattle.porch_flat_text.proofs.Written.{first_written, rest_written}

@@ -1,5 +1,5 @@
 -- The lines of a program's text are taken one after another, and make the program.
-use Rattle.std.proofs.Common.{◌≡◌, ℕ, zero, suc, ◌+◌, ◌<◌, ◌≤◌, ◌^◌, Bool, true, false, ◌&&◌, cond, not, ltb, nat_lt, lit<, lit≤, IsTrue, List, [], ◌∷◌, ◌++◌, map, take, drop, length, Option, Some, None, refl, sym, ap, subst, ◌∙◌, arith, append_assoc, append-nil, length-append, zero-add}
+use Rattle.std.proofs.Common.{◌≡◌, ℕ, ◌+◌, ◌<◌, ◌≤◌, ◌^◌, Bool, true, false, ◌&&◌, cond, not, nat_lt, IsTrue, List, [], ◌∷◌, ◌++◌, map, length, Option, Some, None, refl, sym, ap, subst, ◌∙◌, arith, append_assoc, append-nil, length-append}
 use Rattle.std.proofs.lemmas.Bool.{lt-ltb}
 use Rattle.std.proofs.lemmas.List.{map-append}
 use Rattle.std.proofs.lemmas.Slice.Eq.{bytes_eq-Decides}
@@ -7,7 +7,7 @@ use Rattle.std.specs.Str.{bytes_eq}
 use Rattle.std.specs.Option.{is_none}
 use Rattle.std.specs.List.{list_all, AllByRecursion}
 use Rattle.porch_types.specs.Adding.{add_fault}
-use Rattle.porch_types.specs.Leaves.{IsTypes, kind_types}
+use Rattle.porch_types.specs.Leaves.{IsTypes}
 use Rattle.porch_types.specs.declared.shapes.Ty.{Ty}
 use Rattle.porch_types.specs.declared.shapes.Ty.TheVariants.{Whole, Pointer, Array, Struct}
 use Rattle.porch_flat.specs.declared.flat.GlobalObject.{GlobalObject}
@@ -17,23 +17,21 @@ use Rattle.porch_flat.specs.declared.whole.Command.{Command}
 use Rattle.porch_flat.specs.declared.whole.Command.TheVariants as command
 use Rattle.porch_flat.specs.declared.whole.Function.{Function}
 use Rattle.porch_flat.specs.whole.Flats.{is_built, is_said, is_function_name, is_name, is_keyword}
-use Rattle.porch_flat.specs.whole.Lines.{Line, type_line, global_line, init_line, function_line, var_line, begin_line, command_line, end_line, type_lines, init_lines, global_lines, var_lines, command_lines, function_lines}
+use Rattle.porch_flat.specs.whole.Lines.{global_line, function_line, begin_line, end_line, type_lines, init_lines, global_lines, var_lines, command_lines, function_lines}
 use Rattle.porch_flat_line.specs.declared.word.Word.{Word}
 use Rattle.porch_flat_line.specs.declared.word.Word.TheVariants as word
 use Rattle.porch_flat_text.specs.declared.draft.Draft.{Draft}
 use Rattle.porch_flat_text.specs.declared.draft.Phase.{Phase}
 use Rattle.porch_flat_text.specs.declared.draft.Phase.TheVariants as phase
-use Rattle.porch_flat_line.specs.Text.{Argument, number, name, constant, result_type, Row, row, row_text, type_row, init_row, command_row, arguments_text, line_text, first_head, second_head}
-use Rattle.porch_flat_text.specs.Fitting.{TypeFits, GlobalFits, FunctionFits, RowFits, ArgumentFits}
+use Rattle.porch_flat_line.specs.Text.{Argument, number, name, constant, result_type, row, row_text, type_row, init_row, command_row, arguments_text, line_text}
+use Rattle.porch_flat_text.specs.Fitting.{TypeFits, RowFits, ArgumentFits}
 use Rattle.porch_flat_text.specs.inside.Numbers.{number_in, constant_in, result_type_in}
-use Rattle.porch_flat_text.specs.inside.Cuts.{first, rest, each_in, word_part, inner_part}
-use Rattle.porch_flat_text.specs.inside.Commands.{command_from}
-use Rattle.porch_flat_text.specs.inside.FoundWords.{word_from}
-use Rattle.porch_flat_text.specs.inside.Drafts.{globals_of, functions_of, taken_if, type_from, init_from, function_from, with_type, with_global, with_init, with_function, with_variable, with_begin, with_some_command, with_command, with_end, is_type_word, is_init_word, is_word, next_in, next_by, next_form, next_at, next, run, run_on, is_whole, empty_global, empty_function}
+use Rattle.porch_flat_text.specs.inside.Cuts.{first, rest, each_in, inner_part}
+use Rattle.porch_flat_text.specs.inside.Drafts.{globals_of, taken_if, type_from, init_from, function_from, with_type, with_global, with_init, with_function, with_variable, with_some_command, with_command, with_end, is_word, next_in, next_by, next_form, next, run, run_on, is_whole, empty_global, empty_function}
 use Rattle.porch_flat_text.specs.inside.Good.{GoodGlobal, GoodFunction}
-use Rattle.porch_flat_text.proofs.Written.{word_written, inner_written, word_plain, first_written, rest_written}
+use Rattle.porch_flat_text.proofs.Written.{word_written, inner_written, word_plain, rest_written}
 use Rattle.porch_flat_text.proofs.Decoded.{number_again, constant_again, result_type_again, list_again}
-use Rattle.porch_flat_text.proofs.Commands.{at_first, at_second, at_third, at_fourth, command_again}
+use Rattle.porch_flat_text.proofs.Commands.{at_second, at_third, at_fourth, command_again}
 use Rattle.porch_flat_text.proofs.Reading.{run_append}
 use Rattle.porch_flat_text.proofs.TypesRun.{adds_next, few_before}
 use Rattle.porch_flat_text.proofs.Sound.{draft}

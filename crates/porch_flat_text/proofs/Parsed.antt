@@ -1,5 +1,5 @@
 -- What was read of a text is the beginning of a program's text, and what isn't taken begins none.
-use Rattle.std.proofs.Common.{◌≡◌, ◌≢◌, ◌⊎◌, ⊎_elim, inl, inr, ℕ, zero, suc, ◌+◌, ◌<◌, ◌≤◌, ◌^◌, Bool, true, false, ◌&&◌, not, cond, eqb, lit<, lit≤, IsTrue, List, [], ◌∷◌, ◌++◌, map, take, drop, length, Option, Some, None, Result, Ok, Err, IfOk, IfErr, refl, sym, ap, subst, ◌∙◌, arith, append_assoc, append-nil, length-append, length-drop, zero-add, codes}
+use Rattle.std.proofs.Common.{◌≡◌, ◌≢◌, inl, inr, ℕ, ◌+◌, ◌<◌, ◌≤◌, ◌^◌, Bool, true, false, ◌&&◌, not, eqb, lit<, lit≤, IsTrue, List, [], ◌∷◌, ◌++◌, map, drop, length, Option, Some, None, Result, Ok, Err, IfOk, IfErr, refl, sym, ap, subst, ◌∙◌, arith, append_assoc, append-nil, length-append, length-drop, zero-add, codes}
 use Rattle.std.proofs.lemmas.Bool.{eqb-true, eqb-false}
 use Rattle.std.proofs.lemmas.List.{map-append, take-append-drop}
 use Rattle.std.specs.List.{concat, flat_map, list_all, AllByRecursion}
@@ -12,7 +12,7 @@ use Rattle.porch_flat.specs.declared.flat.Init.TheVariants.{Value, Address}
 use Rattle.porch_flat.specs.declared.whole.Command.{Command}
 use Rattle.porch_flat.specs.declared.whole.Function.{Function}
 use Rattle.porch_flat.specs.declared.whole.Flat.{Flat}
-use Rattle.porch_flat.specs.whole.Flats.{IsFlat, is_built, is_said, is_function_name, is_name, is_keyword}
+use Rattle.porch_flat.specs.whole.Flats.{is_built, is_said, is_function_name, is_name, is_keyword}
 use Rattle.porch_flat.specs.whole.Lines.{Line, type_lines, init_lines, global_lines, var_lines, command_lines, function_lines, begin_line, lines_of}
 use Rattle.porch_flat_line.specs.declared.word.Word.{Word}
 use Rattle.porch_flat_line.specs.declared.word.Word.TheVariants as word
@@ -22,22 +22,22 @@ use Rattle.porch_flat_text.specs.declared.draft.Phase.TheVariants as phase
 use Rattle.porch_flat_text.specs.declared.parse.FlatFault.{FlatFault}
 use Rattle.porch_flat_text.specs.declared.parse.FlatFault.TheVariants.{FlatSyntax, NoMemory}
 use Rattle.porch_flat_line.specs.Words.{word_text}
-use Rattle.porch_flat_line.specs.Text.{Argument, number, constant, name, result_type, Row, row, row_text, argument_text, arguments_text, further_text, type_row, init_row, command_row, line_text, first_head, second_head, Text}
+use Rattle.porch_flat_line.specs.Text.{Argument, number, constant, name, result_type, row, row_text, argument_text, arguments_text, further_text, type_row, init_row, command_row, line_text, first_head, second_head, Text}
 use Rattle.porch_flat_text.specs.Fitting.{ArgumentFits, RowFits, TypeFits, GlobalFits, FunctionFits, IsSayable}
 use Rattle.porch_flat_text.specs.FirstWrong.{IsLine, Begins, IsFirstWrongLine}
 use Rattle.porch_flat_text.specs.Parsing.{Gives, IsRefused}
 use Rattle.porch_flat_text.specs.inside.Cuts.{line_of}
 use Rattle.porch_flat_text.specs.inside.Drafts.{globals_of, functions_of, flat_of, is_whole, next, run, run_on, empty_draft, empty_global, empty_function}
 use Rattle.porch_flat_text.specs.inside.Texts.{types_text, globals_text, vars_text, commands_text, begin_text, end_text, head_text, function_text, functions_text, flat_text}
-use Rattle.porch_flat_text.specs.inside.Good.{Good, GoodGlobal, GoodFunction, Opened, body_read, text_read}
-use Rattle.porch_flat_text.specs.inside.Reads.{HasRead, IsEnded, IsStopped, IsParsed, IsCut, IsRefusedBy}
+use Rattle.porch_flat_text.specs.inside.Good.{Good, GoodGlobal, GoodFunction, Opened, text_read}
+use Rattle.porch_flat_text.specs.inside.Reads.{HasRead, IsStopped, IsParsed, IsCut, IsRefusedBy}
 use Rattle.porch_flat_text.proofs.Reading.{all_push, concat_append, run_append, run_push}
-use Rattle.porch_flat_text.proofs.Lines.{line_found, line_first, lines_alike, Continues}
+use Rattle.porch_flat_text.proofs.Lines.{line_found, line_first, lines_alike}
 use Rattle.porch_flat_text.proofs.Parts.{text_is}
 use Rattle.porch_flat_text.proofs.Written.{none_of, none_append, argument_none}
 use Rattle.porch_flat_text.proofs.Pushed.{functions_pushed}
-use Rattle.porch_flat_text.proofs.Sound.{draft, both, StepGood, step_good}
-use Rattle.porch_flat_text.proofs.Complete.{then_run, one_run, taken_so, is_early, types_run, globals_run, functions_run, AtGlobals, AtFunctions}
+use Rattle.porch_flat_text.proofs.Sound.{draft, both, step_good}
+use Rattle.porch_flat_text.proofs.Complete.{then_run, one_run, taken_so, is_early, types_run, globals_run, functions_run}
 
 -- each form is one line
 longer : (c : ℕ) (line : List ℕ) → c ≢ 10 → IsLine line → IsLine (c ∷ line)

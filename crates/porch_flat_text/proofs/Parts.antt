@@ -1,5 +1,5 @@
 -- The text of a program is that of its parts.
-use Rattle.std.proofs.Common.{◌≡◌, ℕ, zero, suc, Option, Some, arith, slice_get, ◌+◌, List, [], ◌∷◌, ◌++◌, drop, refl, sym, ap, ◌∙◌, append_assoc, append-nil}
+use Rattle.std.proofs.Common.{◌≡◌, ℕ, zero, suc, Some, arith, slice_get, ◌+◌, List, [], ◌∷◌, ◌++◌, drop, refl, sym, ap, ◌∙◌, append_assoc, append-nil}
 use Rattle.std.specs.List.{flat_map}
 use Rattle.porch_types.specs.declared.shapes.Ty.{Ty}
 use Rattle.porch_flat.specs.declared.flat.GlobalObject.{GlobalObject}
@@ -7,10 +7,10 @@ use Rattle.porch_flat.specs.declared.flat.Init.{Init}
 use Rattle.porch_flat.specs.declared.whole.Command.{Command}
 use Rattle.porch_flat.specs.declared.whole.Function.{Function}
 use Rattle.porch_flat.specs.declared.whole.Flat.{Flat}
-use Rattle.porch_flat.specs.whole.Lines.{Line, type_lines, init_lines, global_lines, var_lines, command_lines, function_lines, begin_line, lines_of}
+use Rattle.porch_flat.specs.whole.Lines.{Line, type_lines, init_lines, global_lines, var_lines, command_lines, function_lines, begin_line}
 use Rattle.porch_flat_line.specs.declared.word.Word.TheVariants as word
 use Rattle.porch_flat_line.specs.Text.{number, row, line_text, row_text, type_row, init_row, command_row, Text, first_head, second_head}
-use Rattle.porch_flat_text.specs.inside.Texts.{types_text, inits_text, global_head, global_text, globals_text, vars_text, commands_text, begin_text, end_text, head_text, function_text, functions_text, flat_text}
+use Rattle.porch_flat_text.specs.inside.Texts.{types_text, inits_text, global_head, globals_text, vars_text, commands_text, begin_text, end_text, head_text, functions_text, flat_text}
 
 texts_append : (xs ys : List Line) → flat_map line_text (xs ++ ys) ≡ flat_map line_text xs ++ flat_map line_text ys
 texts_append [] ys = refl

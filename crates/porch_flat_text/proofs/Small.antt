@@ -1,20 +1,18 @@
 -- What is read out of a line has numbers that fit, whatever the line is.
-use Rattle.std.proofs.Common.{◌≡◌, ℕ, ℤ, zero, suc, ◌+◌, ◌-◌, ◌*◌, ◌<◌, ◌≤◌, ◌^◌, min, Bool, true, false, cond, eqb, lit<, lit≤, List, [], ◌∷◌, ◌++◌, map, length, Option, Some, None, IfSome, refl, sym, ap, subst, ◌∙◌, arith, rules}
+use Rattle.std.proofs.Common.{ℕ, ℤ, zero, suc, ◌+◌, ◌-◌, ◌*◌, ◌<◌, ◌≤◌, ◌^◌, min, Bool, true, false, cond, eqb, lit<, List, [], ◌∷◌, map, length, Option, Some, None, IfSome, arith}
 use Rattle.std.specs.List.{AllByRecursion}
 use Rattle.std.specs.Int.RustNames.{FitsSigned}
 use mir.Syntax.{w128}
-use lib.IntN.{pos, negsuc, neg_ℤ}
-use Rattle.porch_flat.specs.declared.flat.Operand.{Operand}
+use lib.IntN.{pos, neg_ℤ}
 use Rattle.porch_flat.specs.declared.flat.Operand.TheVariants.{Var, Constant}
 use Rattle.porch_flat.specs.declared.whole.Command.{Command}
-use Rattle.porch_flat.specs.declared.whole.Command.TheVariants as command
 use Rattle.porch_flat_line.specs.declared.word.Word.{Word}
 use Rattle.porch_flat_line.specs.declared.word.Word.TheVariants as word
-use Rattle.porch_flat_line.specs.Text.{Argument, number, variable, constant, operand, target, result_type, operand_list, command_row}
+use Rattle.porch_flat_line.specs.Text.{Argument, variable, operand, target, result_type, operand_list, command_row}
 use Rattle.porch_flat_text.specs.Fitting.{ArgumentFits, RowFits}
 use Rattle.porch_flat_text.specs.inside.Numbers.{number_after, number_in, magnitude_in, constant_in, variable_in, operand_in, operand_if_any, target_in, result_type_in}
 use Rattle.porch_flat_text.specs.inside.Cuts.{first, rest, each_in}
-use Rattle.porch_flat_text.specs.inside.Commands.{fixed_command, call_from, command_from}
+use Rattle.porch_flat_text.specs.inside.Commands.{fixed_command, command_from}
 
 after_small : (most n : ℕ) (cs : List ℕ) → n ≤ most → number_after most n cs ≤ most
 after_small most n [] low = low

@@ -1,15 +1,11 @@
 -- A line that is taken makes a longer text of a good draft, and a good draft.
-use Rattle.std.proofs.Common.{◌≡◌, ℕ, zero, suc, ◌+◌, ◌<◌, ◌≤◌, ◌^◌, Bool, true, false, ◌&&◌, cond, ltb, lit<, lit≤, IsTrue, List, [], ◌∷◌, ◌++◌, map, take, drop, length, Option, Some, None, IfSome, refl, sym, ap, subst, ◌∙◌, arith, append_assoc, append-nil, length-append, length-drop, zero-add, nat_lt}
+use Rattle.std.proofs.Common.{◌≡◌, ℕ, ◌+◌, ◌<◌, ◌≤◌, ◌^◌, Bool, true, false, ◌&&◌, cond, lit<, lit≤, IsTrue, List, [], ◌∷◌, ◌++◌, drop, length, Option, Some, None, IfSome, refl, sym, ap, subst, ◌∙◌, arith, append_assoc, append-nil, length-append, length-drop, zero-add, nat_lt}
 use Rattle.std.proofs.lemmas.Bool.{ltb-true}
 use Rattle.std.proofs.lemmas.List.{drop-append-le}
 use Rattle.std.proofs.lemmas.Slice.Eq.{bytes_eq-Decides}
-use Rattle.std.specs.Bool.{Decides}
 use Rattle.std.specs.Str.{bytes_eq}
-use Rattle.std.specs.Option.{is_none}
 use Rattle.std.specs.List.{list_all, AllByRecursion}
-use Rattle.porch_types.specs.Adding.{add_fault}
 use Rattle.porch_types.specs.declared.shapes.Ty.{Ty}
-use Rattle.porch_types.specs.declared.shapes.Ty.TheVariants.{Pointer, Array, Struct}
 use Rattle.porch_flat.specs.declared.flat.GlobalObject.{GlobalObject}
 use Rattle.porch_flat.specs.declared.flat.Init.{Init}
 use Rattle.porch_flat.specs.declared.whole.Command.{Command}
@@ -21,14 +17,14 @@ use Rattle.porch_flat_text.specs.declared.draft.Draft.{Draft}
 use Rattle.porch_flat_text.specs.declared.draft.Phase.{Phase}
 use Rattle.porch_flat_text.specs.declared.draft.Phase.TheVariants as phase
 use Rattle.porch_flat_line.specs.Text.{number, row, row_text, type_row, init_row, command_row, first_head, second_head}
-use Rattle.porch_flat_text.specs.Fitting.{TypeFits, GlobalFits, FunctionFits, RowFits, ArgumentFits}
-use Rattle.porch_flat_text.specs.inside.Numbers.{number_in, constant_in, result_type_in}
-use Rattle.porch_flat_text.specs.inside.Cuts.{first, rest, each_in, word_part, inner_part}
+use Rattle.porch_flat_text.specs.Fitting.{TypeFits, RowFits, ArgumentFits}
+use Rattle.porch_flat_text.specs.inside.Numbers.{number_in}
+use Rattle.porch_flat_text.specs.inside.Cuts.{first, rest, word_part, inner_part}
 use Rattle.porch_flat_text.specs.inside.Commands.{command_from}
 use Rattle.porch_flat_text.specs.inside.FoundWords.{word_from}
-use Rattle.porch_flat_text.specs.inside.Drafts.{globals_of, functions_of, taken_if, type_from, init_from, function_from, with_type, with_global, with_init, with_function, with_variable, with_begin, with_some_command, with_command, with_end, is_type_word, is_init_word, is_word, next_in, next_by, next_form, next_at, next, empty_global, empty_function}
+use Rattle.porch_flat_text.specs.inside.Drafts.{globals_of, functions_of, taken_if, type_from, init_from, function_from, with_some_command, is_type_word, is_init_word, is_word, next_in, next_by, next_at, next, empty_global, empty_function}
 use Rattle.porch_flat_text.specs.inside.Texts.{types_text, inits_text, global_head, global_text, globals_text, vars_text, commands_text, begin_text, end_text, head_text, function_text, functions_text}
-use Rattle.porch_flat_text.specs.inside.Good.{Good, GoodGlobal, GoodFunction, Ordered, Opened, functions_read, body_read, text_read}
+use Rattle.porch_flat_text.specs.inside.Good.{Good, GoodGlobal, GoodFunction, text_read}
 use Rattle.porch_flat_text.proofs.Reading.{all_push}
 use Rattle.porch_flat_text.proofs.Pushed.{types_pushed, globals_pushed, functions_pushed, vars_pushed, inits_pushed, commands_pushed}
 use Rattle.porch_flat_text.proofs.Small.{number_fits, constant_fits, result_fits, each_fits, command_fits}

@@ -1,5 +1,5 @@
 -- What a line makes of a program.
-use Rattle.std.proofs.Common.{◌≡◌, Bool, true, false, ◌&&◌, List, ℕ, refl, sym}
+use Rattle.std.proofs.Common.{◌≡◌, Bool, true, false, ◌&&◌, List, ℕ, refl}
 use Rattle.std.specs.Str.{bytes_eq}
 use Rattle.porch_flat_text.specs.declared.draft.Draft.{Draft}
 use Rattle.porch_flat_text.specs.inside.Drafts.{Taken, taken_if}

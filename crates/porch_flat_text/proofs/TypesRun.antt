@@ -1,12 +1,12 @@
 -- The types of a list of types can be added one after another.
-use Rattle.std.proofs.Common.{◌≡◌, ℕ, zero, suc, ◌+◌, ◌<◌, ◌≤◌, ◌^◌, ◌-◌, Bool, true, false, cond, leb, eqb, List, [], ◌∷◌, ◌++◌, length, get_or, slice_get, All, Option, Some, None, refl, sym, ap, subst, ◌∙◌, inl, inr, arith, append_assoc, length-append, zero-add}
+use Rattle.std.proofs.Common.{◌≡◌, ℕ, ◌+◌, ◌<◌, ◌≤◌, ◌^◌, true, false, leb, eqb, List, [], ◌∷◌, ◌++◌, length, get_or, slice_get, Option, Some, None, refl, sym, ap, subst, ◌∙◌, arith, length-append, zero-add}
 use Rattle.std.proofs.lemmas.Bool.Decides.{nat_tests}
 use Rattle.std.proofs.lemmas.List.Elements.{recursion_from_All}
 use Rattle.std.proofs.lemmas.List.{get_or_append_left}
 use Rattle.std.proofs.Math.Seq.{get_or-append_seam}
 use Rattle.std.specs.List.{find, AllByRecursion}
 use Rattle.porch_types.specs.declared.shapes.Ty.{Ty}
-use Rattle.porch_types.specs.Leaves.{parts_of, width_of, leaf_count, leaf_counts_from, leaf_counts, leaves_of, IsTypes, MOST_LEAVES}
+use Rattle.porch_types.specs.Leaves.{parts_of, width_of, leaf_count, leaf_counts_from, leaf_counts, leaves_of, IsTypes}
 use Rattle.porch_types.specs.Adding.{later_part, fault_of, add_fault}
 
 counts_append : (before : List ℕ) (xs ys : List Ty) → leaf_counts_from before (xs ++ ys) ≡ leaf_counts_from (leaf_counts_from before xs) ys

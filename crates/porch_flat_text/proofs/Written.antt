@@ -1,10 +1,9 @@
 -- The parts of a line that is written: its word, and its arguments.
-use Rattle.std.proofs.Common.{◌≡◌, ◌≢◌, ℕ, ℤ, zero, suc, ◌+◌, ◌<◌, ◌≤◌, ◌^◌, Bool, true, false, cond, eqb, ◌&&◌, ◌||◌, lit<, lit≤, List, [], ◌∷◌, ◌++◌, drop, length, codes, IsTrue, Option, Some, refl, sym, ap, subst, ◌∙◌, arith, append_assoc, append-nil}
-use Rattle.std.proofs.lemmas.Bool.{eqb-true}
+use Rattle.std.proofs.Common.{◌≡◌, ℕ, suc, ◌<◌, ◌≤◌, ◌^◌, Bool, true, false, cond, eqb, ◌&&◌, ◌||◌, lit<, lit≤, List, [], ◌∷◌, ◌++◌, drop, codes, IsTrue, Some, refl, ap, ◌∙◌, arith, append-nil}
 use Rattle.std.proofs.lemmas.Bool.Decides.{nat_tests}
 use Rattle.std.proofs.lemmas.Fmt.{decimal_is_IsNumeral_wide}
 use Rattle.std.proofs.lemmas.Str.Parse.{digit_from_value}
-use Rattle.std.specs.Fmt.{decimal, signed_decimal}
+use Rattle.std.specs.Fmt.{decimal}
 use Rattle.std.specs.Str.Parse.{AllDigits}
 use Rattle.std.specs.List.{list_all, AllByRecursion}
 use lib.IntN.{pos, negsuc}
@@ -12,8 +11,8 @@ use Rattle.porch_flat.specs.whole.Flats.{is_name, is_letter, is_digit}
 use Rattle.porch_flat_line.specs.declared.word.Word.{Word}
 use Rattle.porch_flat_line.specs.declared.word.Word.TheVariants as word
 use Rattle.porch_flat_line.specs.Words.{word_text}
-use Rattle.porch_flat_line.specs.Text.{Argument, number, variable, constant, nowhere, void, name, argument_text, arguments_text, further_text, Row, row, row_text}
-use Rattle.porch_flat_text.specs.Fitting.{ArgumentFits, RowFits}
+use Rattle.porch_flat_line.specs.Text.{Argument, number, variable, constant, nowhere, void, name, argument_text, arguments_text, further_text, row, row_text}
+use Rattle.porch_flat_text.specs.Fitting.{ArgumentFits}
 use Rattle.porch_flat_text.specs.inside.Cuts.{before, behind, word_part, inner_part, first, rest}
 use Rattle.porch_flat_text.specs.inside.FoundWords.{word_from}
 

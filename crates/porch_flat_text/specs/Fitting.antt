@@ -1,16 +1,14 @@
 -- Which programs have numbers that a text can say: numbers of 32 bits, constants of 128, also where things are counted.
-use Rattle.std.specs.Prelude.{ℕ, ◌<◌, ◌≤◌, ◌^◌, List, length, drop, IsTrue, ⊤}
+use Rattle.std.specs.Prelude.{◌<◌, ◌≤◌, ◌^◌, length, drop, IsTrue, ⊤}
 use Rattle.std.specs.List.{AllByRecursion}
 use Rattle.std.specs.Int.RustNames.{FitsSigned}
 use mir.Syntax.{w128}
 use Rattle.porch_types.specs.declared.shapes.Ty.{Ty}
 use Rattle.porch_flat.specs.declared.flat.GlobalObject.{GlobalObject}
-use Rattle.porch_flat.specs.declared.flat.Init.{Init}
-use Rattle.porch_flat.specs.declared.whole.Command.{Command}
 use Rattle.porch_flat.specs.declared.whole.Function.{Function}
 use Rattle.porch_flat.specs.declared.whole.Flat.{Flat}
 use Rattle.porch_flat.specs.whole.Flats.{IsFlat, is_name}
-use Rattle.porch_flat_line.specs.Text.{Argument, number, variable, constant, nowhere, void, name, Row, row, type_row, init_row, command_row, result_type}
+use Rattle.porch_flat_line.specs.Text.{Argument, number, variable, constant, nowhere, void, name, Row, type_row, init_row, command_row, result_type}
 
 abbrev pub ArgumentFits : Argument → Type 0
 ArgumentFits (number n) = n < 2 ^ 32

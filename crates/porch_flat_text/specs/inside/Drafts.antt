@@ -1,5 +1,5 @@
 -- What a line makes of a program that is read so far.
-use Rattle.std.specs.Prelude.{◌≡◌, ℕ, ℤ, pos, ◌+◌, ◌^◌, ◌<◌, ◌==◌, nat_lt, nat_le, Bool, true, false, not, ◌&&◌, if◌then◌else◌, List, [], ◌∷◌, ◌++◌, length, is_some, Option, Some, None}
+use Rattle.std.specs.Prelude.{◌≡◌, ℕ, ◌^◌, nat_lt, Bool, true, false, ◌&&◌, if◌then◌else◌, List, [], ◌∷◌, ◌++◌, length, Option, Some, None}
 use Rattle.std.specs.Option.{is_none}
 use Rattle.std.specs.Str.{bytes_eq}
 use Rattle.porch_types.specs.Adding.{add_fault}
@@ -20,7 +20,7 @@ use Rattle.porch_flat_line.specs.declared.word.Word.TheVariants as word
 use Rattle.porch_flat_text.specs.declared.draft.Draft.{Draft}
 use Rattle.porch_flat_text.specs.declared.draft.Phase.{Phase}
 use Rattle.porch_flat_text.specs.declared.draft.Phase.TheVariants as phase
-use Rattle.porch_flat_line.specs.Text.{number, Row, row, row_text, type_row, init_row, line_text, command_row, first_head, second_head}
+use Rattle.porch_flat_line.specs.Text.{number, row, row_text, type_row, init_row, line_text, command_row, first_head, second_head}
 use Rattle.porch_flat_text.specs.inside.FoundWords.{word_from}
 use Rattle.porch_flat_text.specs.inside.Numbers.{number_in, constant_in, result_type_in}
 use Rattle.porch_flat_text.specs.inside.Cuts.{word_part, inner_part, first, rest, each_in}

@@ -1,5 +1,5 @@
 -- Which drafts are begun programs, and the text that was read for one.
-use Rattle.std.specs.Prelude.{◌≡◌, ℕ, ◌+◌, ◌≤◌, ◌^◌, IsTrue, List, [], ◌∷◌, ◌++◌, drop, length, ⊤}
+use Rattle.std.specs.Prelude.{◌≡◌, ℕ, ◌≤◌, ◌^◌, IsTrue, List, [], ◌++◌, drop, length, ⊤}
 use Rattle.std.specs.List.{list_all, AllByRecursion}
 use Rattle.porch_flat.specs.declared.flat.GlobalObject.{GlobalObject}
 use Rattle.porch_flat.specs.declared.whole.Function.{Function}
@@ -9,7 +9,7 @@ use Rattle.porch_flat_text.specs.declared.draft.Phase.{Phase}
 use Rattle.porch_flat_text.specs.declared.draft.Phase.TheVariants as phase
 use Rattle.porch_flat_line.specs.Text.{first_head, second_head}
 use Rattle.porch_flat_text.specs.Fitting.{TypeFits, GlobalFits, FunctionFits}
-use Rattle.porch_flat_text.specs.inside.Texts.{types_text, globals_text, vars_text, commands_text, begin_text, end_text, head_text, functions_text}
+use Rattle.porch_flat_text.specs.inside.Texts.{types_text, globals_text, vars_text, commands_text, begin_text, head_text, functions_text}
 use Rattle.porch_flat_text.specs.inside.Drafts.{globals_of, functions_of}
 
 pub record GoodGlobal (g : GlobalObject) : Type 0 where

@@ -1,5 +1,5 @@
 -- How far a text was read.
-use Rattle.std.specs.Prelude.{◌≡◌, ◌⊎◌, ◌&&◌, true, false, ℕ, ◌+◌, ◌==◌, Bool, List, ◌++◌, length, Option, Some, None, ⊤}
+use Rattle.std.specs.Prelude.{◌≡◌, ◌⊎◌, ◌&&◌, true, false, ℕ, ◌+◌, ◌==◌, Bool, List, ◌++◌, length, Some, None, ⊤}
 use Rattle.std.specs.List.{concat, AllByRecursion}
 use Rattle.porch_types.specs.Leaves.{IsTypes}
 use Rattle.porch_flat.specs.declared.whole.Flat.{Flat}

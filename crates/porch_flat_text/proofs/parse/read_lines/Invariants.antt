@@ -1,4 +1,4 @@
-use Rattle.std.proofs.Common.{◌≡◌, ◌+◌, ◌≤◌, length}
+use Rattle.std.proofs.Common.{◌+◌, ◌≤◌, length}
 use Rattle.porch_flat_text.specs.inside.Reads.{HasRead}
 use Rattle.porch_flat_text.proofs.parse.read_lines.Given as goal
 
