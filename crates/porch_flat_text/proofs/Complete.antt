@@ -211,7 +211,7 @@ globals_run (new ∷ more) p ts gs g f n early e low good =
     let inits = map line_text (init_lines n new 0 new.inits) in
     let others = map line_text (global_lines (n + 1) more) in
     let behind : run begun (inits ++ others) ≡ Some (draft next_ones.p ts next_ones.gs next_ones.g [] f) =
-    then_run inits others begun filled _ (inits_run new.inits [] ts all new.ty [] f n new 0 e small good.0.fits.inits good.0.said) next_ones.made in
+    then_run inits others begun filled (draft next_ones.p ts next_ones.gs next_ones.g [] f) (inits_run new.inits [] ts all new.ty [] f n new 0 e small good.0.fits.inits good.0.said) next_ones.made in
     record {
       p = next_ones.p;
       gs = next_ones.gs;

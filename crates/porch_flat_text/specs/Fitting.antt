@@ -2,7 +2,7 @@
 use Rattle.std.specs.Prelude.{◌<◌, ◌≤◌, ◌^◌, length, drop, IsTrue, ⊤}
 use Rattle.std.specs.List.{AllByRecursion}
 use Rattle.std.specs.Int.RustNames.{FitsSigned}
-use mir.Syntax.{w128}
+use Rattle.std.specs.Int.{w128}
 use Rattle.porch_types.specs.declared.shapes.Ty.{Ty}
 use Rattle.porch_flat.specs.declared.flat.GlobalObject.{GlobalObject}
 use Rattle.porch_flat.specs.declared.whole.Function.{Function}
