@@ -5,3 +5,5 @@
 
 #[cfg(test)]
 mod rules;
+#[cfg(test)]
+mod text;
