@@ -285,9 +285,10 @@ module _ (flat : Flat) (number : ℕ) (f : Function) (at_number : slice_get flat
 
   -- the way out
   back_kept : (prefix : List Command) → made ≡ prefix ++ back reaching f → Clear (numbers_in reaching f.commands) prefix → Each (Keeps program true) (command_lines f' (length prefix) (back reaching f))
-  back_kept prefix whole clear =
-      (label_kept (length prefix) out (omega (arith, few)) (new_label (numbers_in reaching f.commands) prefix (command.Push (every_variable reaching f) ∷ []) whole clear),
-      (push_kept (length prefix + 1), (end_kept, tt)))
+  back_kept prefix whole clear = (
+    label_kept (length prefix) out (omega (arith, few)) (new_label (numbers_in reaching f.commands) prefix (command.Push (every_variable reaching f) ∷ []) whole clear),
+    (push_kept (length prefix + 1), (end_kept, tt)),
+  )
 
   unlabelled : (before : ℕ) (prefix : List Command) (c : Command) → Clear before prefix → ((k : ℕ) → before ≤ k → is_label (FIRST_LABEL + k) c ≡ false) → Clear before (prefix ++ c ∷ [])
   unlabelled before prefix c clear other k le = find_none (is_label (FIRST_LABEL + k)) prefix (c ∷ []) (clear k le) (rw (other k le) refl)
@@ -402,12 +403,17 @@ module _ (flat : Flat) (number : ℕ) (f : Function) (at_number : slice_get flat
           let place1 : drop (length prefix + 1) made ≡ c ∷ mark ∷ behind (before + 1) cs = subst (λ k. drop k made ≡ c ∷ mark ∷ behind (before + 1) cs) one (from_place prefix1 (c ∷ mark ∷ behind (before + 1) cs) whole2) in
           let long : size reaching (drop (i + 1) f.commands) + 2 ≤ length (mark ∷ behind (before + 1) cs) = (let size_of = long_behind (before + 1) cs in let same : size reaching (drop (i + 1) f.commands) ≡ size reaching cs = ap (λ l. size reaching l) next_at in omega (arith, size_of, same)) in
           let none : label_of (form_of c) ≡ None = numbered_unlabelled reaching (form_of c) is in
-          subst (λ l. Lines (length prefix) l) (sym shape)
-          (label_kept (length prefix) (FIRST_LABEL + before) (omega (arith, few, counted)) (new_label before prefix (c ∷ mark ∷ behind (before + 1) cs) whole1 clear),
-          (old_kept i (length prefix + 1) c kept.0
-          (jump_kept i (length prefix + 1) before c (mark ∷ behind (before + 1) cs) place1 long here kept.0 (λ n label. absurd (let no : None ≡ Some n = sym none ∙ label in cc))),
-          (saved_kept (length prefix + 1 + 1) (before + 1) out (omega (arith, few, counted)) (omega (arith, few)),
-          subst (λ k. Lines k (behind (before + 1) cs)) three rest)))
+          subst (λ l. Lines (length prefix) l) (sym shape) (
+            label_kept (length prefix) (FIRST_LABEL + before) (omega (arith, few, counted)) (new_label before prefix (c ∷ mark ∷ behind (before + 1) cs) whole1 clear),
+            (
+              old_kept i (length prefix + 1) c kept.0
+                  (jump_kept i (length prefix + 1) before c (mark ∷ behind (before + 1) cs) place1 long here kept.0 (λ n label. absurd (let no : None ≡ Some n = sym none ∙ label in cc))),
+              (
+                saved_kept (length prefix + 1 + 1) (before + 1) out (omega (arith, few, counted)) (omega (arith, few)),
+                subst (λ k. Lines k (behind (before + 1) cs)) three rest,
+              ),
+            ),
+          )
       own_by false is more =
           let shape : behind before (c ∷ cs) ≡ c ∷ behind before cs = rw is refl in
           let whole1 : made ≡ prefix ++ c ∷ behind before cs = whole ∙ ap (λ l. prefix ++ l) shape in
@@ -420,16 +426,18 @@ module _ (flat : Flat) (number : ℕ) (f : Function) (at_number : slice_get flat
           let place : drop (length prefix) made ≡ c ∷ behind before cs = from_place prefix (c ∷ behind before cs) whole1 in
           let long : size reaching (drop (i + 1) f.commands) + 2 ≤ length (behind before cs) = (let size_of = long_behind before cs in let same : size reaching (drop (i + 1) f.commands) ≡ size reaching cs = ap (λ l. size reaching l) next_at in omega (arith, size_of, same)) in
           let stands : Rests reaching f (length prefix) before (drop i f.commands) = from_place prefix (behind before (c ∷ cs)) whole ∙ ap (λ l. behind before l) (sym at) in
-          subst (λ l. Lines (length prefix) l) (sym shape)
-          (old_kept i (length prefix) c kept.0 (jump_kept i (length prefix) before c (behind before cs) place long here kept.0 (λ n label. stands)),
-          subst (λ k. Lines k (behind before cs)) one rest)
+          subst (λ l. Lines (length prefix) l) (sym shape) (
+            old_kept i (length prefix) c kept.0 (jump_kept i (length prefix) before c (behind before cs) place long here kept.0 (λ n label. stands)),
+            subst (λ k. Lines k (behind before cs)) one rest,
+          )
 
   tables_kept : (count before place : ℕ) (rest : List Command) → before + count ≤ numbers_in reaching f.commands → Lines (place + count) rest → Lines place (tables before count ++ rest)
   tables_kept zero before place rest le kept = let none : place + 0 ≡ place = omega arith in subst (λ k. Lines k rest) none kept
   tables_kept (suc count) before place rest le kept =
-      let same : place + suc count ≡ place + 1 + count = omega arith in
-      (table_kept place (before + 1) (FIRST_LABEL + before) (omega (arith, few, le)) (omega (arith, few, le)),
-      tables_kept count (before + 1) (place + 1) rest (omega (arith, le)) (subst (λ k. Lines k rest) same kept))
+      let same : place + suc count ≡ place + 1 + count = omega arith in (
+        table_kept place (before + 1) (FIRST_LABEL + before) (omega (arith, few, le)) (omega (arith, few, le)),
+        tables_kept count (before + 1) (place + 1) rest (omega (arith, le)) (subst (λ k. Lines k rest) same kept),
+      )
 
   tables_unlabelled : (n before count : ℕ) → find (is_label n) (tables before count) ≡ None
   tables_unlabelled n before zero = refl

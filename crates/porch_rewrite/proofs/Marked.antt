@@ -308,7 +308,7 @@ module _ (flat : Flat) (least : IsLeastClosed flat (reaches flat)) where
             let counted : before + 1 + tally (has_number reaching) cs ≡ count = (let one : tally (has_number reaching) (c ∷ cs) ≡ 1 + tally (has_number reaching) cs = rw is refl in omega (arith, numbers, one)) in
             let rest = more (before + 1) (p + 1 + 1 + 1) next counted in
             let places : places_from p test (map form_of (behind before (c ∷ cs))) ≡ (p + 1) ∷ places_from (p + 1 + 1 + 1) test (map form_of (behind (before + 1) cs)) =
-                ap (λ l. places_from p test (map form_of l)) shape ∙ (rw (test_alike (form_of c), is) refl) in
+            ap (λ l. places_from p test (map form_of l)) shape ∙ (rw (test_alike (form_of c), is) refl) in
             record {
               marked = rw (places, one_marked before p c (behind (before + 1) cs) (omega (arith, counted)) here) rest.marked;
               number = rw (places, is) (ap (λ k. suc k) rest.number ∙ (omega arith));
@@ -319,7 +319,7 @@ module _ (flat : Flat) (least : IsLeastClosed flat (reaches flat)) where
             let counted : before + tally (has_number reaching) cs ≡ count = (let none : tally (has_number reaching) (c ∷ cs) ≡ tally (has_number reaching) cs = rw is refl in omega (arith, numbers, none)) in
             let rest = more before (p + 1) (drop_next made p c (behind before cs) here) counted in
             let places : places_from p test (map form_of (behind before (c ∷ cs))) ≡ places_from (p + 1) test (map form_of (behind before cs)) =
-                ap (λ l. places_from p test (map form_of l)) shape ∙ (rw (test_alike (form_of c), is) refl) in
+            ap (λ l. places_from p test (map form_of l)) shape ∙ (rw (test_alike (form_of c), is) refl) in
             record { marked = rw places rest.marked; number = rw (places, is) rest.number }
 
     tables_places : (n before p : ℕ) (rest : List Command) → places_from p test (map form_of (tables before n ++ rest)) ≡ places_from (p + n) test (map form_of rest)
@@ -411,10 +411,10 @@ module _ (flat : Flat) (least : IsLeastClosed flat (reaches flat)) where
         let numbers : 0 + tally (has_number reaching) f.commands ≡ count = (let same = tally_is (has_number reaching) f.commands in omega (arith, same)) in
         let long = tables_length 0 count in
         let place : drop (1 + count) made ≡ behind 0 f.commands =
-            (let front_long : length (front reaching f) ≡ 1 + count = omega (arith, long) in subst (λ k. drop k made ≡ behind 0 f.commands) front_long (drop_append (front reaching f) (behind 0 f.commands))) in
+        (let front_long : length (front reaching f) ≡ 1 + count = omega (arith, long) in subst (λ k. drop k made ≡ behind 0 f.commands) front_long (drop_append (front reaching f) (behind 0 f.commands))) in
         let own = own_marked f.commands 0 (1 + count) place numbers in
         let places : places_from 0 test forms ≡ places_from (1 + count) test (map form_of (behind 0 f.commands)) =
-            (let one : 0 + 1 ≡ 1 = omega arith in tables_places count 0 (0 + 1) (behind 0 f.commands) ∙ ap (λ k. places_from (k + count) test (map form_of (behind 0 f.commands))) one) in
+        (let one : 0 + 1 ≡ 1 = omega arith in tables_places count 0 (0 + 1) (behind 0 f.commands) ∙ ap (λ k. places_from (k + count) test (map form_of (behind 0 f.commands))) one) in
         let number : length (places_from (1 + count) test (map form_of (behind 0 f.commands))) ≡ suc some.0 = own.number ∙ tally_is (has_number reaching) f.commands ∙ some.1 in
         let first : are_marked (length f.vars) forms 1 (places_from (1 + count) test (map form_of (behind 0 f.commands))) ≡ true = own.marked in
         ap (λ ps. is_marked_at (length f.vars) forms ps) places

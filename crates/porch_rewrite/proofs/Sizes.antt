@@ -157,7 +157,7 @@ module _ (reaching : ℕ → Bool) where
         let plain' : has_number reaching next.0 ≡ false = turn_unnumbered reaching (form_of next.0) next.1.1 in
         let own : drop to f.commands ≡ label.0 ∷ next.0 ∷ drop (to + 1 + 1) f.commands = drop_some f.commands to label.0 label.1.0 ∙ ap (λ l. label.0 ∷ l) (drop_some f.commands (to + 1) next.0 next.1.0) in
         let two : drop there made ≡ label.0 ∷ next.0 ∷ (all_with_marks reaching (way_out reaching f) before (drop (to + 1 + 1) f.commands) ++ back reaching f) =
-            at ∙ ap (λ cs. all_with_marks reaching (way_out reaching f) before cs ++ back reaching f) own ∙ (rw (plain, plain') refl) in
+        at ∙ ap (λ cs. all_with_marks reaching (way_out reaching f) before cs ++ back reaching f) own ∙ (rw (plain, plain') refl) in
         let here = drop_here made (there + 1) next.0 (all_with_marks reaching (way_out reaching f) before (drop (to + 1 + 1) f.commands) ++ back reaching f) (drop_next made there label.0 (next.0 ∷ (all_with_marks reaching (way_out reaching f) before (drop (to + 1 + 1) f.commands) ++ back reaching f)) two) in
         rw here next.1.1
 

@@ -87,10 +87,11 @@ module _ (flat : Flat) (room : HasRoom flat) (few : HasFew flat) (least : IsLeas
 
   globals_kept : (n : ℕ) (gs : List GlobalObject) → Each Old (global_lines n gs) → Each New (global_lines n gs)
   globals_kept n [] h = tt
-  globals_kept n (g ∷ gs) h =
-      (global_kept n g h.0,
-      each_append New (init_lines n g 0 g.inits) (global_lines (n + 1) gs) (inits_kept n g 0 g.inits (each_first Old (init_lines n g 0 g.inits) (global_lines (n + 1) gs) h.1))
-      (globals_kept (n + 1) gs (each_second Old (init_lines n g 0 g.inits) (global_lines (n + 1) gs) h.1)))
+  globals_kept n (g ∷ gs) h = (
+    global_kept n g h.0,
+    each_append New (init_lines n g 0 g.inits) (global_lines (n + 1) gs) (inits_kept n g 0 g.inits (each_first Old (init_lines n g 0 g.inits) (global_lines (n + 1) gs) h.1))
+        (globals_kept (n + 1) gs (each_second Old (init_lines n g 0 g.inits) (global_lines (n + 1) gs) h.1)),
+  )
 
   -- a function with other commands
 
@@ -163,8 +164,10 @@ module _ (flat : Flat) (room : HasRoom flat) (few : HasFew flat) (least : IsLeas
       rw is (head_kept n f f.commands (alone_marked flat least n f at is (h rule.Modes)) h, body_kept f f.commands body (same_commands f 0 f.commands commands))
   function_kept n f true is at h body =
       let commands = (each_second Old (var_lines f 0 f.vars) (begin_line ∷ command_lines f 0 f.commands) body).1 in
-      rw is (head_kept n f (saving_commands reaching f) (saving_marked flat least f n at is (h rule.Modes)) h,
-      body_kept f (saving_commands reaching f) body (commands_kept flat n f at room (few_numbers flat few reaching n f at) commands))
+      rw is (
+        head_kept n f (saving_commands reaching f) (saving_marked flat least f n at is (h rule.Modes)) h,
+        body_kept f (saving_commands reaching f) body (commands_kept flat n f at room (few_numbers flat few reaching n f at) commands),
+      )
 
   abbrev Stand : ℕ → List Function → Type 0
   Stand n fs = (i : ℕ) (f : Function) → slice_get fs i ≡ Some f → slice_get flat.functions (n + i) ≡ Some f
