@@ -1,0 +1,3 @@
+pub mod Joined
+pub mod KindWords
+pub mod Words
