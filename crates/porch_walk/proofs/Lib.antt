@@ -1,3 +1,6 @@
+pub mod Expressions
 pub mod Joined
 pub mod KindWords
+pub mod Meaning
+pub mod Tokens
 pub mod Words

@@ -2,6 +2,8 @@
 use Rattle.std.proofs.Common.{◌≡◌, ℕ, Bool, true, false, nat_eq, List, [], ◌∷◌, refl, sym, ap, ◌∙◌, get_or, arith, Contains}
 use Rattle.std.specs.Str.{bytes_eq}
 use Rattle.std.specs.Bool.{Decides}
+use Rattle.std.specs.Cmp.{IsEquivalence}
+use Rattle.std.proofs.lemmas.Cmp.{nat_list_eq_equiv}
 use Rattle.std.proofs.lemmas.Slice.Eq.{bytes_eq-Decides}
 use Rattle.std.proofs.lemmas.Map.Views.{list_any-from_Contains, Contains-from_any}
 use Rattle.porch_tree.specs.declared.word.Keyword.{Keyword}
@@ -75,3 +77,9 @@ bytes_same a b h = let d : Decides (bytes_eq a b) (a ≡ b) = bytes_eq-Decides a
 
 pub type_known : (types : List (List ℕ)) (n : List ℕ) → names_type types n ≡ true → Contains types n
 type_known types n h = Contains-from_any bytes_same n types h
+
+bytes_equivalence : IsEquivalence bytes_eq
+bytes_equivalence = nat_list_eq_equiv
+
+pub known_type : (types : List (List ℕ)) (n : List ℕ) → Contains types n → names_type types n ≡ true
+known_type types n h = list_any-from_Contains bytes_equivalence n types h
