@@ -1,3 +1,4 @@
+pub mod Declarators
 pub mod Expressions
 pub mod Joined
 pub mod KindWords
