@@ -113,16 +113,16 @@ void_const at n x xs = tt
 some_params : (x : Param) (xs : Params) → with_param x xs ≡ no_params → ⊥
 some_params x xs h = cc
 
-some_fields : (x : Field) (xs : Fields) → with_field x xs ≡ no_fields → ⊥
+pub some_fields : (x : Field) (xs : Fields) → with_field x xs ≡ no_fields → ⊥
 some_fields x xs h = cc
 
-some_constants : (x : Constant) (xs : Constants) → with_constant x xs ≡ no_constants → ⊥
+pub some_constants : (x : Constant) (xs : Constants) → with_constant x xs ≡ no_constants → ⊥
 some_constants x xs h = cc
 
-some_declarators : (x : Declarator) (xs : Declarators) → with_declarator x xs ≡ no_declarators → ⊥
+pub some_declarators : (x : Declarator) (xs : Declarators) → with_declarator x xs ≡ no_declarators → ⊥
 some_declarators x xs h = cc
 
-some_initials : (x : Initial) (xs : Initials) → with_initial x xs ≡ no_initials → ⊥
+pub some_initials : (x : Initial) (xs : Initials) → with_initial x xs ≡ no_initials → ⊥
 some_initials x xs h = cc
 
 bytes_of : (w : Word) (bs : List ℕ) → w ≡ word.Name → name_bytes w bs ≡ bs

@@ -28,7 +28,7 @@ use Rattle.porch_walk.specs.declared.symbol.Symbol.{Symbol}
 use Rattle.porch_walk.specs.declared.symbol.Symbol.TheVariants.{Must, Operand, Open, Texts, Suffixes as Suffixes_to_come, Behind, Commas, Optional, Base as Base_to_come, Kind, Consts, Tag, Declarator as Declarator_to_come}
 use Rattle.porch_walk.specs.Walk.{Stage, is, is_mark, is_key, heard, name_bytes, names_type, or_else, no_kinds, kinds_behind, is_infix, is_assigning, rest_of, takes_type, behind_type, goes, kind as kind_stage, base_key, base_of, base, unary_mark, unary_key, unary, operand, nested as nested_stage, open_type, open_on, suffix_mark, suffix, operators}
 use Rattle.porch_walk.proofs.Words.{same, itself, type_known, known_type}
-use Rattle.porch_walk.proofs.KindWords.{fits, fits_from, fits_kind, kind_fits}
+use Rattle.porch_walk.proofs.KindWords.{fits, fits_from, is_const, first_fits, fits_kind, kind_fits}
 use Rattle.porch_walk.proofs.Tokens.{Token, name_of, ArePieces, IsA, Reads, Takes, unplaced_kind, unplaced_consts, unplaced_word, pieces_of, pieces_fit, NoType, plain_first}
 use Rattle.porch_walk.proofs.Meaning.{Whole, May, IsAny, AnExpr, AnOperand, ABase, Means, Comes}
 use Rattle.porch_walk.proofs.Joined.{joined}
@@ -111,15 +111,15 @@ comma_expr e (with_expr x xs) = sequence e (with_expr x xs)
 some_exprs : (x : Expr) (xs : Exprs) → with_expr x xs ≡ no_exprs → ⊥
 some_exprs x xs h = cc
 
-comma_fits : (i : Bool) (e : Expr) (es : Exprs) (d : ℕ) (ps : List Piece) (ts : List Token) → ArePieces ts (expr_pieces i e d (more_pieces i es d ps)) → ArePieces ts (expr_pieces i (comma_expr e es) d ps)
+pub comma_fits : (i : Bool) (e : Expr) (es : Exprs) (d : ℕ) (ps : List Piece) (ts : List Token) → ArePieces ts (expr_pieces i e d (more_pieces i es d ps)) → ArePieces ts (expr_pieces i (comma_expr e es) d ps)
 comma_fits i e no_exprs d ps ts h = h
 comma_fits i e (with_expr x xs) d ps ts h = h
 
-comma_formed : (e : Expr) (es : Exprs) → IsAssign e → IsExpr e → AreAssigns es → IsExpr (comma_expr e es)
+pub comma_formed : (e : Expr) (es : Exprs) → IsAssign e → IsExpr e → AreAssigns es → IsExpr (comma_expr e es)
 comma_formed e no_exprs a g h = g
 comma_formed e (with_expr x xs) a g h = (a, g, some_exprs x xs, h)
 
-comma_names : (types : List (List ℕ)) (e : Expr) (es : Exprs) → ReadsExpr types e true → ReadsExprs types es → ReadsExpr types (comma_expr e es) true
+pub comma_names : (types : List (List ℕ)) (e : Expr) (es : Exprs) → ReadsExpr types e true → ReadsExprs types es → ReadsExpr types (comma_expr e es) true
 comma_names types e no_exprs r h = r
 comma_names types e (with_expr x xs) r h = (r, h)
 
@@ -248,9 +248,9 @@ bytes_of w bs h = rw h refl
 module _ (types : List (List ℕ)) (fresh : List ℕ) (i : Bool) where
   -- bases
 
-  kind_first : (ss : List Symbol) (k : Keyword) (s : Kinds) (t : Token) (ts : List Token) → IsA i t (word.Key k) → kinds_behind no_kinds k ≡ Some s → Means types fresh i (Kind s ∷ ss) ts
+  kind_first : (ss : List Symbol) (k : Keyword) (s : Kinds) (t : Token) (ts : List Token) → IsA i t (word.Key k) → is_const k ≡ false → kinds_behind no_kinds k ≡ Some s → Means types fresh i (Kind s ∷ ss) ts
       → ABase types i (Means types fresh i ss) (t ∷ ts)
-  kind_first ss k s t ts a e c = record {
+  kind_first ss k s t ts a n e m = let c = m (first_fits k s n e) in record {
     part = kind t.at (k ∷ c.part);
     rest = c.rest;
     fits = λ d ps h. ((a.word, refl, tt, a.inside), c.fits d ps h);
@@ -258,10 +258,10 @@ module _ (types : List (List ℕ)) (fresh : List ℕ) (i : Bool) where
     next = c.next;
   }
 
-  kind_taken : (ss : List Symbol) (k : Keyword) (t : Token) (ts : List Token) (o : Option Kinds) → IsA i t (word.Key k) → kinds_behind no_kinds k ≡ o → Comes (kind_stage types fresh i ss o) ts
+  kind_taken : (ss : List Symbol) (k : Keyword) (t : Token) (ts : List Token) (o : Option Kinds) → IsA i t (word.Key k) → is_const k ≡ false → kinds_behind no_kinds k ≡ o → Comes (kind_stage types fresh i ss o) ts
       → ABase types i (Means types fresh i ss) (t ∷ ts)
-  kind_taken ss k t ts None a e c = absurd c
-  kind_taken ss k t ts (Some s) a e c = kind_first ss k s t ts a e c
+  kind_taken ss k t ts None a n e c = absurd c
+  kind_taken ss k t ts (Some s) a n e c = kind_first ss k s t ts a n e c
 
   base_key_taken : (ss : List Symbol) (k : Keyword) (t : Token) (ts : List Token) → IsA i t (word.Key k) → Comes (base_key types fresh i ss k) ts → ABase types i (Means types fresh i ss) (t ∷ ts)
   base_key_taken ss key.Const t ts a c = record {
@@ -280,7 +280,7 @@ module _ (types : List (List ℕ)) (fresh : List ℕ) (i : Bool) where
   }
   base_key_taken ss key.Struct t ts a c = c t a
   base_key_taken ss key.Enum t ts a c = c t a
-  base_key_taken ss k t ts a c = kind_taken ss k t ts (kinds_behind no_kinds k) a refl c
+  base_key_taken ss k t ts a c = kind_taken ss k t ts (kinds_behind no_kinds k) a refl refl c
 
   pub base_of_taken : (ss : List Symbol) (w : Word) (b : Bool) (t : Token) (ts : List Token) → IsA i t w → (w ≡ word.Name → b ≡ true → Contains types t.bytes) → Comes (base_of types fresh i ss w b) ts
       → ABase types i (Means types fresh i ss) (t ∷ ts)
@@ -448,7 +448,7 @@ module _ (types : List (List ℕ)) (fresh : List ℕ) (i : Bool) where
   no_type ss t h n c = none_here (base_of types fresh i ss word.Name true) _ refl
       (sym (ap (λ w. base_of types fresh i ss w (names_type types (name_bytes w t.bytes))) n ∙ ap (base_of types fresh i ss word.Name) (known_type types t.bytes c)) ∙ h)
 
-  open_taken : (b : Bool) (m : Mode) (ss : List Symbol) (o t : Token) (ts : List Token) → IsA i o (word.Mark mark.OpenParenthesis) → t.inside ≡ i → takes_type m ≡ b
+  pub open_taken : (b : Bool) (m : Mode) (ss : List Symbol) (o t : Token) (ts : List Token) → IsA i o (word.Mark mark.OpenParenthesis) → t.inside ≡ i → takes_type m ≡ b
       → Comes (open_on types fresh i b m ss (heard t.word t.bytes)) ts → AnOperand types i m (Means types fresh i ss) (o ∷ t ∷ ts)
   open_taken true m ss o t ts p k h =
       either (open_type types fresh i m ss (heard t.word t.bytes)) _ ts (type_taken m ss o t ts p k h)

@@ -17,6 +17,70 @@ abbrev pub fits : Kinds → List Keyword → Bool
 fits s [] = s.char || (s.length || (s.int || s.sign))
 fits s (k ∷ ks) = fits_from (kinds_behind s k) (λ next. fits next ks)
 
+-- behind the first word of a kind, and behind each further one
+abbrev pub is_const : Keyword → Bool
+is_const key.Const = true
+is_const k = false
+
+fitting : (o : Option Kinds) (s : Kinds) → o ≡ Some s → fits_from o (λ n. fits n []) ≡ fits s []
+fitting o s e = ap (λ p. fits_from p (λ n. fits n [])) e
+
+no_kind : (s : Kinds) → ◌≡◌ {A = Option Kinds} None (Some s) → ⊥
+no_kind s h = cc
+
+true_not_false : true ≡ false → ⊥
+true_not_false h = cc
+
+pub first_fits : (k : Keyword) (s : Kinds) → is_const k ≡ false → kinds_behind no_kinds k ≡ Some s → fits s [] ≡ true
+first_fits key.Const s h e = absurd (true_not_false h)
+first_fits key.Char s h e = sym (fitting (kinds_behind no_kinds key.Char) s e)
+first_fits key.Short s h e = sym (fitting (kinds_behind no_kinds key.Short) s e)
+first_fits key.Int s h e = sym (fitting (kinds_behind no_kinds key.Int) s e)
+first_fits key.Long s h e = sym (fitting (kinds_behind no_kinds key.Long) s e)
+first_fits key.Signed s h e = sym (fitting (kinds_behind no_kinds key.Signed) s e)
+first_fits key.Unsigned s h e = sym (fitting (kinds_behind no_kinds key.Unsigned) s e)
+first_fits k s h e = absurd (no_kind s e)
+
+abbrev four : Bool → Bool → Bool → Bool → Kinds
+four a b c d = record { char = a; length = b; int = c; sign = d }
+
+on : (o : Option Kinds) (n : Kinds) → fits_from o (λ n. fits n []) ≡ true → o ≡ Some n → fits n [] ≡ true
+on o n h e = sym (fitting o n e) ∙ h
+
+off : {R : Type 0} (n : Kinds) → ◌≡◌ {A = Option Kinds} None (Some n) → R
+off n h = absurd (no_kind n h)
+
+more_fits : (k : Keyword) (a b c d : Bool) (n : Kinds) → fits (four a b c d) [] ≡ true → kinds_behind (four a b c d) k ≡ Some n → fits n [] ≡ true
+more_fits key.Const a b c d n h e = on (kinds_behind (four a b c d) key.Const) n h e
+more_fits key.Char true b c d n h e = off n e
+more_fits key.Char false true c d n h e = off n e
+more_fits key.Char false false true d n h e = off n e
+more_fits key.Char false false false d n h e = on (kinds_behind (four false false false d) key.Char) n refl e
+more_fits key.Short true b c d n h e = off n e
+more_fits key.Short false true c d n h e = off n e
+more_fits key.Short false false c d n h e = on (kinds_behind (four false false c d) key.Short) n refl e
+more_fits key.Long true b c d n h e = off n e
+more_fits key.Long false true c d n h e = off n e
+more_fits key.Long false false c d n h e = on (kinds_behind (four false false c d) key.Long) n refl e
+more_fits key.Int true b c d n h e = off n e
+more_fits key.Int false b true d n h e = off n e
+more_fits key.Int false true false d n h e = on (kinds_behind (four false true false d) key.Int) n refl e
+more_fits key.Int false false false d n h e = on (kinds_behind (four false false false d) key.Int) n refl e
+more_fits key.Signed a b c true n h e = off n e
+more_fits key.Signed true b c false n h e = on (kinds_behind (four true b c false) key.Signed) n refl e
+more_fits key.Signed false true c false n h e = on (kinds_behind (four false true c false) key.Signed) n refl e
+more_fits key.Signed false false true false n h e = on (kinds_behind (four false false true false) key.Signed) n refl e
+more_fits key.Signed false false false false n h e = on (kinds_behind (four false false false false) key.Signed) n refl e
+more_fits key.Unsigned a b c true n h e = off n e
+more_fits key.Unsigned true b c false n h e = on (kinds_behind (four true b c false) key.Unsigned) n refl e
+more_fits key.Unsigned false true c false n h e = on (kinds_behind (four false true c false) key.Unsigned) n refl e
+more_fits key.Unsigned false false true false n h e = on (kinds_behind (four false false true false) key.Unsigned) n refl e
+more_fits key.Unsigned false false false false n h e = on (kinds_behind (four false false false false) key.Unsigned) n refl e
+more_fits k a b c d n h e = off n e
+
+pub next_fits : (s : Kinds) (k : Keyword) (n : Kinds) → fits s [] ≡ true → kinds_behind s k ≡ Some n → fits n [] ≡ true
+next_fits s k n h e = more_fits k s.char s.length s.int s.sign n h e
+
 abbrev many : (Keyword → Bool) → List Keyword → ℕ
 many test [] = 0
 many test (k ∷ ks) = (if test k then 1 else 0) + many test ks
