@@ -340,7 +340,7 @@ module _ (types : List (List ℕ)) (i : Bool) where
   core_no_const (inner k x) bs a d ps h = refl
 
   -- the first piece of a declarator, or what is behind it
-  declarator_first : (P : List Piece → Type 0) (x : Declarator) → ((p : Piece) (ps : List Piece) → starts p.word ≡ true → P (p ∷ ps)) → (d : ℕ) (ps : List Piece) → (HasTokens x ⊎ P ps) → P (declarator_pieces i x d ps)
+  pub declarator_first : (P : List Piece → Type 0) (x : Declarator) → ((p : Piece) (ps : List Piece) → starts p.word ≡ true → P (p ∷ ps)) → (d : ℕ) (ps : List Piece) → (HasTokens x ⊎ P ps) → P (declarator_pieces i x d ps)
   declarator_first P (declarator k (c ∷ cs) core bs) f d ps h = f _ _ refl
   declarator_first P (declarator k [] (named_core n) bs) f d ps h = f _ _ refl
   declarator_first P (declarator k [] (inner j x) bs) f d ps h = f _ _ refl

@@ -7,4 +7,5 @@ pub mod Meaning
 pub mod Passes
 pub mod Sound
 pub mod Tokens
+pub mod Units
 pub mod Words
