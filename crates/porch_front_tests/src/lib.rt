@@ -1,0 +1,7 @@
+//! The tests of what reads a source: worked texts, each with what comes of it.
+//!
+//! They stand in a crate of their own, as porch_tests does. A file a subject, named for what it tries.
+#![tactic(auto)]
+
+#[cfg(test)]
+mod tokens;

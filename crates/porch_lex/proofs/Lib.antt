@@ -1,0 +1,14 @@
+pub mod Slices
+pub mod Tests
+pub mod Numbers
+pub mod Lengths
+pub mod Keywords
+pub mod Marks
+pub mod Within
+pub mod Reached
+pub mod Readings
+pub mod Rising
+pub mod Stable
+pub mod Spelled
+pub mod Longest
+pub mod Values

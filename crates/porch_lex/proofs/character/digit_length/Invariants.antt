@@ -1,0 +1,10 @@
+use Rattle.std.proofs.Common.{◌≡◌, ◌+◌, ◌-◌, ◌≤◌, length, drop}
+use Rattle.std.specs.List.{prefix_len}
+use Rattle.porch_lex.specs.Characters.{is_digit_of}
+use Rattle.porch_lex.proofs.character.digit_length.Given as goal
+
+abbrev pub invariant-loop-at : goal.invariant-loop-at
+invariant-loop-at l = (prefix_len (is_digit_of l.base) l.text ≡ l.at + prefix_len (is_digit_of l.base) (drop l.at l.text)) × (l.at ≤ length l.text)
+
+abbrev pub decreases-loop-at : goal.decreases-loop-at
+decreases-loop-at l = length l.text - l.at

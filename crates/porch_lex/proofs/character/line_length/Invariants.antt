@@ -1,0 +1,10 @@
+use Rattle.std.proofs.Common.{◌≡◌, ◌+◌, ◌-◌, ◌≤◌, length, drop}
+use Rattle.std.specs.List.{position_or_len}
+use Rattle.porch_lex.specs.Characters.{is_newline}
+use Rattle.porch_lex.proofs.character.line_length.Given as goal
+
+abbrev pub invariant-loop-at : goal.invariant-loop-at
+invariant-loop-at l = (position_or_len is_newline l.text ≡ l.at + position_or_len is_newline (drop l.at l.text)) × (l.at ≤ length l.text)
+
+abbrev pub decreases-loop-at : goal.decreases-loop-at
+decreases-loop-at l = length l.text - l.at
