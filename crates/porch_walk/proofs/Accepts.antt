@@ -46,11 +46,11 @@ text_word w h = absurd (never h)
 key_name : (k : Keyword) → ◌≡◌ {A = Word} (word.Key k) word.Name → ⊥
 key_name k h = cc
 
-abbrev no_const_key : Keyword → Bool
+abbrev pub no_const_key : Keyword → Bool
 no_const_key key.Const = false
 no_const_key k = true
 
-abbrev no_const : Word → Bool
+abbrev pub no_const : Word → Bool
 no_const (word.Key k) = no_const_key k
 no_const w = true
 
@@ -59,7 +59,7 @@ leaves_word (word.Key k) h = absurd (never (sym h))
 leaves_word (word.Mark m) h = refl
 leaves_word w h = refl
 
-follows_no_text : (ps : List Piece) → Heads follows ps → Heads not_text ps
+pub follows_no_text : (ps : List Piece) → Heads follows ps → Heads not_text ps
 follows_no_text [] h = absurd h
 follows_no_text (p ∷ ps) h = decided_not (not_text p.word) (λ e. never (sym h ∙ ap follows (text_word p.word e)))
 
@@ -237,7 +237,7 @@ module _ (types : List (List ℕ)) (i : Bool) where
 
   -- bases
 
-  not_const : (f : List ℕ) (ss : List Symbol) (p : Piece) (ps : List Piece) → behind_base p.word ≡ true → on f (Consts ∷ ss) (p ∷ ps) ≡ on f ss (p ∷ ps)
+  pub not_const : (f : List ℕ) (ss : List Symbol) (p : Piece) (ps : List Piece) → behind_base p.word ≡ true → on f (Consts ∷ ss) (p ∷ ps) ≡ on f ss (p ∷ ps)
   not_const f ss p ps h = skips _ _ (λ n. over n ps) (differs behind_base p.word (word.Key key.Const) h refl)
 
   consts_run : (n : ℕ) (f : List ℕ) (ss : List Symbol) (d : ℕ) (ps : List Piece) → Heads behind_base ps → on f (Consts ∷ ss) (const_pieces i n None d ps) ≡ on f ss ps
@@ -249,7 +249,7 @@ module _ (types : List (List ℕ)) (i : Bool) where
   before_run zero a f ss d ps = refl
   before_run (suc n) a f ss d ps = before_run n None f ss d ps
 
-  no_kind_of : (s : Kinds) (w : Word) → behind_base w ≡ true → kinds_of s w ≡ None
+  pub no_kind_of : (s : Kinds) (w : Word) → behind_base w ≡ true → kinds_of s w ≡ None
   no_kind_of s (word.Key k) h = absurd (never (sym h))
   no_kind_of s (word.Mark m) h = refl
   no_kind_of s w h = refl
@@ -276,7 +276,7 @@ module _ (types : List (List ℕ)) (i : Bool) where
   kind_run (key.Unsigned ∷ ks) a f ss d ps g h = kinds_run ks _ f ss d ps g h
   kind_run (k ∷ ks) a f ss d ps g h = absurd (never (sym g))
 
-  tag_consts : (s : TagSort) (n : ℕ) (f : List ℕ) (ss : List Symbol) (d : ℕ) (ps : List Piece) → Heads behind_base ps → on f (TagBody s ∷ ss) (const_pieces i n None d ps) ≡ on f ss ps
+  pub tag_consts : (s : TagSort) (n : ℕ) (f : List ℕ) (ss : List Symbol) (d : ℕ) (ps : List Piece) → Heads behind_base ps → on f (TagBody s ∷ ss) (const_pieces i n None d ps) ≡ on f ss ps
   tag_consts s zero f ss d [] h = absurd h
   tag_consts s zero f ss d (p ∷ ps) h =
       skips _ _ (λ n. over n ps) (differs behind_base p.word (word.Mark mark.OpenBrace) h refl) ∙ skips _ _ (λ n. over n ps) (differs behind_base p.word (word.Key key.Const) h refl)
@@ -287,16 +287,16 @@ module _ (types : List (List ℕ)) (i : Bool) where
 
   -- what a declarator leaves out and what is behind it
 
-  pass_brackets : (f : List ℕ) (ss : List Symbol) (ps : List Piece) → Heads leaves ps → on f (Brackets_to_come ∷ ss) ps ≡ on f ss ps
+  pub pass_brackets : (f : List ℕ) (ss : List Symbol) (ps : List Piece) → Heads leaves ps → on f (Brackets_to_come ∷ ss) ps ≡ on f ss ps
   pass_brackets f ss [] h = absurd h
   pass_brackets f ss (p ∷ ps) h =
       skips _ _ (λ n. over n ps) (differs leaves p.word (word.Mark mark.OpenBracket) h refl) ∙ skips _ _ (λ n. over n ps) (differs leaves p.word (word.Mark mark.OpenParenthesis) h refl)
 
-  pass_counts : (f : List ℕ) (ss : List Symbol) (ps : List Piece) → Heads leaves ps → on f (Counts ∷ ss) ps ≡ on f ss ps
+  pub pass_counts : (f : List ℕ) (ss : List Symbol) (ps : List Piece) → Heads leaves ps → on f (Counts ∷ ss) ps ≡ on f ss ps
   pass_counts f ss [] h = absurd h
   pass_counts f ss (p ∷ ps) h = skips _ _ (λ n. over n ps) (differs leaves p.word (word.Mark mark.OpenBracket) h refl)
 
-  pass_declarator : (n : Naming) (f : List ℕ) (ss : List Symbol) (ps : List Piece) → may_lack n ≡ true → Heads leaves ps → on f (Declarator_to_come n ∷ ss) ps ≡ on f ss ps
+  pub pass_declarator : (n : Naming) (f : List ℕ) (ss : List Symbol) (ps : List Piece) → may_lack n ≡ true → Heads leaves ps → on f (Declarator_to_come n ∷ ss) ps ≡ on f ss ps
   pass_declarator n f ss [] k h = absurd h
   pass_declarator naming.Must f ss (p ∷ ps) k h = absurd (never (sym k))
   pass_declarator naming.Typedef f ss (p ∷ ps) k h = absurd (never (sym k))
@@ -307,7 +307,7 @@ module _ (types : List (List ℕ)) (i : Bool) where
       skips _ _ (λ n. over n ps) (differs leaves p.word (word.Mark mark.Star) h refl) ∙ skips _ _ (λ n. over n ps) (differs leaves p.word (word.Mark mark.OpenBracket) h refl)
 
   -- a piece that isn't `const` behind a star
-  after_star : (n : Naming) (f : List ℕ) (ss : List Symbol) (ps : List Piece) → Heads no_const ps → on f (Pointer n ∷ ss) ps ≡ on f (Declarator_to_come n ∷ ss) ps
+  pub after_star : (n : Naming) (f : List ℕ) (ss : List Symbol) (ps : List Piece) → Heads no_const ps → on f (Pointer n ∷ ss) ps ≡ on f (Declarator_to_come n ∷ ss) ps
   after_star n f ss [] h = absurd h
   after_star n f ss (p ∷ ps) h = skips _ _ (λ s. over s ps) (differs no_const p.word (word.Key key.Const) h refl)
 
@@ -323,7 +323,7 @@ module _ (types : List (List ℕ)) (i : Bool) where
   stars_run [] a n f ss d ps h = refl
   stars_run (c ∷ cs) a n f ss d ps h = star_consts c n f ss d _ ∙ pointers_run cs n f ss d ps h
 
-  leaves_no_const : (ps : List Piece) → Heads leaves ps → Heads no_const ps
+  pub leaves_no_const : (ps : List Piece) → Heads leaves ps → Heads no_const ps
   leaves_no_const [] h = absurd h
   leaves_no_const (p ∷ ps) h = leaves_word p.word h
 
@@ -508,7 +508,7 @@ module _ (types : List (List ℕ)) (i : Bool) where
   constants_end no_constants d ps = refl
   constants_end (with_constant (constant n e) cs) d ps = refl
 
-  no_value : (f : List ℕ) (ss : List Symbol) (ps : List Piece) → Heads ends ps → on f (ConstantValue ∷ ss) ps ≡ on f ss ps
+  pub no_value : (f : List ℕ) (ss : List Symbol) (ps : List Piece) → Heads ends ps → on f (ConstantValue ∷ ss) ps ≡ on f ss ps
   no_value f ss [] h = absurd h
   no_value f ss (p ∷ ps) h = skips _ _ (λ n. over n ps) (differs ends p.word (word.Mark mark.Equal) h refl)
 

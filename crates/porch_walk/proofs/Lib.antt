@@ -1,7 +1,9 @@
 pub mod Accepts
+pub mod Completes
 pub mod Declarators
 pub mod Expressions
 pub mod Joined
+pub mod Kept
 pub mod KindWords
 pub mod Meaning
 pub mod Passes

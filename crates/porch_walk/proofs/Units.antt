@@ -479,7 +479,7 @@ pub record Complete (s : Stage) (ps : List Piece) : Type 0 where
   pub run : over s ps ≡ Some last
   pub ended : is_over last ≡ true
 
-complete : (s t : Stage) (ps qs : List Piece) → over s ps ≡ over t qs → Complete t qs → Complete s ps
+pub complete : (s t : Stage) (ps qs : List Piece) → over s ps ≡ over t qs → Complete t qs → Complete s ps
 complete s t ps qs e c = record { last = c.last; run = e ∙ c.run; ended = c.ended }
 
 pub unit_run : (u : TranslationUnit) (types : List (List ℕ)) (f : List ℕ) → AreItems u → ReadsNames types u → Complete (at types false f []) (unit_pieces u)
