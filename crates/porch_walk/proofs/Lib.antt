@@ -2,6 +2,7 @@ pub mod Accepts
 pub mod Completes
 pub mod Declarators
 pub mod Expressions
+pub mod First
 pub mod Joined
 pub mod Kept
 pub mod KindWords

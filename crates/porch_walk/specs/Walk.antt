@@ -12,7 +12,8 @@ use Rattle.porch_tree.specs.declared.word.Word.TheVariants as word
 use Rattle.porch_tree.specs.declared.tree.TagSort.{TagSort}
 use Rattle.porch_tree.specs.declared.tree.TagSort.TheVariants as tag_sort
 use Rattle.porch_tree.specs.Pieces.{Spelled}
-use Rattle.porch_tree.specs.Grammar.{Fault, syntax_fault, outside, is_outside}
+use Rattle.porch_tree.specs.Mirror.{TranslationUnit}
+use Rattle.porch_tree.specs.Grammar.{Fault, syntax_fault, nesting, outside, is_outside, IsDeepUnit, Stops, IsOutside}
 use Rattle.porch_walk.specs.declared.symbol.Mode.{Mode}
 use Rattle.porch_walk.specs.declared.symbol.Mode.TheVariants as mode
 use Rattle.porch_walk.specs.declared.symbol.Naming.{Naming}
@@ -552,3 +553,15 @@ wrong i s [] = if is_over s then None else wrong_at i syntax_fault
 wrong i s (t ∷ ts) =
     if is_outside s.inside (t.word ∷ map (λ q. q.word) ts) then wrong_at i outside
     else wrong_from i (step s t.word t.bytes) (λ next. wrong (i + 1) next ts)
+
+-- What is said of a token by its fault.
+abbrev pub ToldOf : List Spelled → ℕ → Fault → Type 0
+ToldOf ts i syntax_fault = Stops ts i
+ToldOf ts i nesting = ⊥
+ToldOf ts i outside = IsOutside ts i
+
+-- What an answer says: a unit has these tokens; or the token is outside the language; or it is the first
+-- with which no unit goes on, or the end of what only begins one.
+abbrev pub Told : List Spelled → Option Wrong → Type 0
+Told ts None = (u : TranslationUnit) × IsDeepUnit ts u
+Told ts (Some w) = ToldOf ts w.token w.fault
