@@ -1,6 +1,7 @@
 -- What the walk answers is true of the units that a text begins.
 use Rattle.std.proofs.Common.{◌≡◌, ℕ, zero, suc, ◌+◌, ◌<◌, ◌≤◌, ◌⊎◌, inl, inr, Bool, true, false, ◌&&◌, ◌||◌, IsTrue, if◌then◌else◌, List, [], ◌∷◌, ◌++◌, map, length, take, drop, slice_get, Option, Some, None, refl, sym, ap, subst, ◌∙◌, arith, add-one}
 use Rattle.std.proofs.Math.Seq.{take-length}
+use Rattle.std.proofs.lemmas.List.{take-append-drop}
 use Rattle.porch_tree.specs.declared.word.Keyword.{Keyword}
 use Rattle.porch_tree.specs.declared.word.Keyword.TheVariants as key
 use Rattle.porch_tree.specs.declared.word.Mark.{Mark}
@@ -17,7 +18,7 @@ use Rattle.porch_walk.specs.declared.symbol.Naming.TheVariants as naming
 use Rattle.porch_walk.specs.declared.symbol.Kinds.{Kinds}
 use Rattle.porch_walk.specs.declared.symbol.Symbol.{Symbol}
 use Rattle.porch_walk.specs.declared.symbol.Symbol.TheVariants.{Must, Operand, Open, Texts, Suffixes, Behind, Commas, Optional, Base, Kind, Consts, Tag, TagBody, Fields, MoreDeclarators, ConstantValue, Constants, Declarator, Pointer, Nameless, Brackets, Counts, Count, Parameters, Void, MoreParameters, Entries, Entry, MoreEntries, Initial, MoreInitials, NextInitial, FileEntries, FirstEntry, EndTypedef, Body, Statements, Statement, Else, Cases}
-use Rattle.porch_walk.specs.Walk.{Stage, step, start, run_from, run, ends_here, is_over, name_bytes, heard, Wrong, wrong_at, wrong_from, wrong, behind, or_else, Told, is, is_mark, goes, contents}
+use Rattle.porch_walk.specs.Walk.{Stage, step, start, run_from, run, ends_here, is_over, name_bytes, heard, Wrong, wrong_at, wrong_from, wrong, behind, or_else, ToldOf, Told, is, is_mark, goes, contents}
 
 
 
@@ -493,3 +494,209 @@ not_beginning : (ts : List Spelled) → run start ts ≡ None → AreBeginning t
 not_beginning ts e b =
     let a = unit_accepted (ts ++ b.begins.rest) (b.unit) (b.begins.unit) in
     no_stage (a.last) (ap (λ o. run_from o (λ m. run m (b.begins.rest))) (sym e) ∙ sym (run_on ts (b.begins.rest) start) ∙ a.run)
+
+-- where the walk stops
+
+record Halted (s : Stage) (ts : List Spelled) (k : ℕ) (f : Fault) : Type 0 where
+  stage : Stage
+  before : run s (take k ts) ≡ Some stage
+  clean : PreClean s (take k ts) (drop k ts)
+  how : ((f ≡ outside) × (k < length ts) × (is_outside stage.inside (map (λ q. q.word) (drop k ts)) ≡ true))
+      ⊎ ((f ≡ syntax_fault) × (k < length ts) × (run s (take (suc k) ts) ≡ None))
+      ⊎ ((f ≡ syntax_fault) × (k ≡ length ts) × (is_over stage ≡ false))
+
+record WrongAt (i : ℕ) (w : Wrong) (s : Stage) (ts : List Spelled) : Type 0 where
+  passed : ℕ
+  place : w.token ≡ i + passed
+  halted : Halted s ts passed w.fault
+
+none_some : (w : Wrong) → ◌≡◌ {A = Option Wrong} None (Some w) → ⊥
+none_some w h = cc
+
+same_wrong : (v w : Wrong) → Some v ≡ Some w → v ≡ w
+same_wrong v w h = cc
+
+plus_zero : (i : ℕ) → i ≡ i + 0
+plus_zero i = omega arith
+
+moved : (i k : ℕ) → i + 1 + k ≡ i + suc k
+moved i k = omega arith
+
+first_of_more : (n : ℕ) → 0 < suc n
+first_of_more n = search arith
+
+one_more : (k n : ℕ) → k < n → suc k < suc n
+one_more k n h = search arith
+
+answered : (i : ℕ) (f : Fault) (w : Wrong) (s : Stage) (ts : List Spelled) → wrong_at i f ≡ Some w → Halted s ts 0 f → WrongAt i w s ts
+answered i f w s ts e h = record {
+  passed = 0;
+  place = ap (λ v. v.token) (sym (same_wrong _ w e)) ∙ plus_zero i;
+  halted = subst (Halted s ts 0) (ap (λ v. v.fault) (same_wrong _ w e)) h;
+}
+
+halted_end : (i : ℕ) (b : Bool) (w : Wrong) (s : Stage) → is_over s ≡ b → (if b then None else wrong_at i syntax_fault) ≡ Some w → WrongAt i w s []
+halted_end i true w s o e = absurd (none_some w e)
+halted_end i false w s o e = answered i syntax_fault w s [] e (record { stage = s; before = refl; clean = tt; how = inr (inr (refl, refl, o)) })
+
+halted_step : (i : ℕ) (w : Wrong) (s : Stage) (t : Spelled) (ts : List Spelled) (o : Option Stage) → step s t.word t.bytes ≡ o → is_outside s.inside (t.word ∷ map (λ q. q.word) ts) ≡ false
+    → ((n : Stage) → wrong (i + 1) n ts ≡ Some w → WrongAt (i + 1) w n ts) → wrong_from i o (λ n. wrong (i + 1) n ts) ≡ Some w → WrongAt i w s (t ∷ ts)
+halted_step i w s t ts None h c f e =
+    answered i syntax_fault w s (t ∷ ts) e
+    (record { stage = s; before = refl; clean = tt; how = inr (inl (refl, first_of_more (length ts), ap (λ q. run_from q (λ m. run m [])) h)) })
+halted_step i w s t ts (Some n) h c f e =
+    let r = f n e in
+    let k = r.halted in
+    record {
+      passed = suc (r.passed);
+      place = r.place ∙ moved i (r.passed);
+      halted = record {
+        stage = k.stage;
+        before = ap (λ q. run_from q (λ m. run m (take (r.passed) ts))) h ∙ k.before;
+        clean = (ap (λ qs. is_outside s.inside (t.word ∷ map (λ q. q.word) qs)) (take-append-drop (r.passed) ts) ∙ c, subst (λ q. clean_on q (λ m. PreClean m (take (r.passed) ts) (drop (r.passed) ts))) (sym h) k.clean);
+        how = elim (k.how) [
+          | inl a ↦ inl (a.0, one_more (r.passed) (length ts) a.1, a.2)
+          | inr (inl a) ↦ inr (inl (a.0, one_more (r.passed) (length ts) a.1, ap (λ q. run_from q (λ m. run m (take (suc (r.passed)) ts))) h ∙ a.2))
+          | inr (inr a) ↦ inr (inr (a.0, ap suc a.1, a.2))
+        ];
+      };
+    }
+
+halted_one : (i : ℕ) (b : Bool) (w : Wrong) (s : Stage) (t : Spelled) (ts : List Spelled) → is_outside s.inside (t.word ∷ map (λ q. q.word) ts) ≡ b
+    → ((n : Stage) → wrong (i + 1) n ts ≡ Some w → WrongAt (i + 1) w n ts) → (if b then wrong_at i outside else wrong_from i (step s t.word t.bytes) (λ n. wrong (i + 1) n ts)) ≡ Some w → WrongAt i w s (t ∷ ts)
+halted_one i true w s t ts c f e =
+    answered i outside w s (t ∷ ts) e (record { stage = s; before = refl; clean = tt; how = inl (refl, first_of_more (length ts), c) })
+halted_one i false w s t ts c f e = halted_step i w s t ts (step s t.word t.bytes) refl c f e
+
+halted : (ts : List Spelled) (i : ℕ) (w : Wrong) (s : Stage) → wrong i s ts ≡ Some w → WrongAt i w s ts
+halted [] i w s e = halted_end i (is_over s) w s refl e
+halted (t ∷ ts) i w s e = halted_one i (is_outside s.inside (t.word ∷ map (λ q. q.word) ts)) w s t ts refl (halted ts (i + 1) w) e
+
+-- where it finds nothing wrong
+
+record Right (s : Stage) (ts : List Spelled) : Type 0 where
+  last : Stage
+  run : run s ts ≡ Some last
+  ended : is_over last ≡ true
+  clean : Clean s ts
+
+some_none : (w : Wrong) → ◌≡◌ {A = Option Wrong} (Some w) None → ⊥
+some_none w h = cc
+
+right_end : (i : ℕ) (b : Bool) (s : Stage) → is_over s ≡ b → (if b then None else wrong_at i syntax_fault) ≡ None → Right s []
+right_end i true s o e = record { last = s; run = refl; ended = o; clean = tt }
+right_end i false s o e = absurd (some_none _ e)
+
+right_step : (i : ℕ) (s : Stage) (t : Spelled) (ts : List Spelled) (o : Option Stage) → step s t.word t.bytes ≡ o → is_outside s.inside (t.word ∷ map (λ q. q.word) ts) ≡ false
+    → ((n : Stage) → wrong (i + 1) n ts ≡ None → Right n ts) → wrong_from i o (λ n. wrong (i + 1) n ts) ≡ None → Right s (t ∷ ts)
+right_step i s t ts None h c f e = absurd (some_none _ e)
+right_step i s t ts (Some n) h c f e =
+    let r = f n e in
+    record {
+      last = r.last;
+      run = ap (λ q. run_from q (λ m. run m ts)) h ∙ r.run;
+      ended = r.ended;
+      clean = (c, subst (λ q. clean_on q (λ m. Clean m ts)) (sym h) r.clean);
+    }
+
+right_one : (i : ℕ) (b : Bool) (s : Stage) (t : Spelled) (ts : List Spelled) → is_outside s.inside (t.word ∷ map (λ q. q.word) ts) ≡ b → ((n : Stage) → wrong (i + 1) n ts ≡ None → Right n ts)
+    → (if b then wrong_at i outside else wrong_from i (step s t.word t.bytes) (λ n. wrong (i + 1) n ts)) ≡ None → Right s (t ∷ ts)
+right_one i true s t ts c f e = absurd (some_none _ e)
+right_one i false s t ts c f e = right_step i s t ts (step s t.word t.bytes) refl c f e
+
+right : (ts : List Spelled) (i : ℕ) (s : Stage) → wrong i s ts ≡ None → Right s ts
+right [] i s e = right_end i (is_over s) s refl e
+right (t ∷ ts) i s e = right_one i (is_outside s.inside (t.word ∷ map (λ q. q.word) ts)) s t ts refl (right ts (i + 1)) e
+
+-- the block that a piece lies in is the walk's
+
+flag_on : (o : Option Stage) (ts us : List Spelled) (k : ℕ) (n : Stage) (ps : List Piece) → run_from o (λ m. run m (take k ts)) ≡ Some n
+    → ((m : Stage) → run m (take k ts) ≡ Some n → ArePieces (met m (take k ts ++ us)) ps → inside_at (slice_get ps k) ≡ n.inside) → ArePieces (met_on o (λ m. met m (take k ts ++ us))) ps → inside_at (slice_get ps k) ≡ n.inside
+flag_on None ts us k n ps e f h = absurd (no_stage n e)
+flag_on (Some m) ts us k n ps e f h = f m e h
+
+flag_here : (us : List Spelled) (s : Stage) (ps : List Piece) → (us ≡ [] → s.inside ≡ false) → ArePieces (met s us) ps → inside_at (slice_get ps 0) ≡ s.inside
+flag_here [] s [] f h = sym (f refl)
+flag_here [] s (p ∷ ps) f h = absurd h
+flag_here (x ∷ us) s [] f h = absurd h
+flag_here (x ∷ us) s (p ∷ ps) f h = sym h.0.3
+
+too_many : (k : ℕ) → suc k ≤ 0 → ⊥
+too_many k h = omega (arith, h)
+
+one_less : (k n : ℕ) → suc k ≤ suc n → k ≤ n
+one_less k n h = search arith
+
+flag_at : (k : ℕ) (ts us : List Spelled) (s n : Stage) (ps : List Piece) → k ≤ length ts → run s (take k ts) ≡ Some n → (us ≡ [] → n.inside ≡ false) → ArePieces (met s (take k ts ++ us)) ps → inside_at (slice_get ps k) ≡ n.inside
+flag_at zero ts us s n ps l e f h = subst (λ m. inside_at (slice_get ps 0) ≡ m.inside) (same_stage s n e) (flag_here us s ps (λ q. ap (λ m. m.inside) (same_stage s n e) ∙ f q) h)
+flag_at (suc k) [] us s n ps l e f h = absurd (too_many k l)
+flag_at (suc k) (t ∷ ts) us s n [] l e f h = absurd h
+flag_at (suc k) (t ∷ ts) us s n (p ∷ ps) l e f h = flag_on (step s t.word t.bytes) ts us k n ps e (λ m d. flag_at k ts us m n ps (one_less k (length ts) l) d f) h.1
+
+over_outside : (ss : List Symbol) (b : Bool) → ends_here ss b ≡ true → b ≡ false
+over_outside [] false h = refl
+over_outside [] true h = absurd (never (sym h))
+over_outside (s ∷ ss) true h = absurd (never (sym h))
+over_outside (s ∷ ss) false h = refl
+
+append_none : (ts : List Spelled) → ts ++ [] ≡ ts
+append_none [] = refl
+append_none (t ∷ ts) = ap (λ us. t ∷ us) (append_none ts)
+
+-- a beginning that needs nothing more ends outside of blocks
+nothing_more : (ts : List Spelled) (n : Stage) → run start ts ≡ Some n → ending n ≡ [] → n.inside ≡ false
+nothing_more ts n e h =
+    let a = completed ts n e in
+    let l : a.last ≡ n = same_stage (a.last) n (sym (a.run) ∙ ap (λ us. run start (ts ++ us)) h ∙ ap (run start) (append_none ts) ∙ e) in
+    over_outside n.pending n.inside (ap is_over (sym l) ∙ a.ended)
+
+whole : (ts : List Spelled) (k : ℕ) → k ≡ length ts → take k ts ≡ ts
+whole ts k h = ap (λ n. take n ts) h ∙ take-length ts
+
+below : (k n : ℕ) → k < n → k ≤ n
+below k n h = search arith
+
+told_outside : (ts : List Spelled) (k : ℕ) (n : Stage) → k < length ts → run start (take k ts) ≡ Some n → PreClean start (take k ts) (drop k ts) → is_outside n.inside (map (λ q. q.word) (drop k ts)) ≡ true → IsOutside ts k
+told_outside ts k n l e c o =
+    let r = read_beginning (take k ts) (drop k ts) n e c in
+    let q : inside_at (slice_get (unit_pieces (r.part)) k) ≡ n.inside =
+    flag_at k ts (ending n) start n (unit_pieces (r.part)) (below k (length ts) l) e (nothing_more (take k ts) n e) (r.pieces) in
+    record {
+      unit = r.part;
+      begins = record { rest = ending n; unit = r.unit };
+      outside = ap (λ b. is_outside b (map (λ t. t.word) (drop k ts))) q ∙ o;
+    }
+
+not_over : (n : Stage) → is_over n ≡ false → is_over n ≡ true → ⊥
+not_over n f t = never (sym t ∙ f)
+
+told_end : (ts : List Spelled) (k : ℕ) (n : Stage) → k ≡ length ts → run start (take k ts) ≡ Some n → PreClean start (take k ts) (drop k ts) → is_over n ≡ false → Stops ts k
+told_end ts k n l e c o =
+    at_end l (subst AreBeginning (whole ts k l) (beginning (take k ts) (drop k ts) n e c))
+    (λ u h. let a = unit_accepted ts u h in not_over n o (ap is_over (same_stage n (a.last) (sym e ∙ ap (run start) (whole ts k l) ∙ a.run)) ∙ a.ended))
+
+told_stop : (ts : List Spelled) (k : ℕ) (n : Stage) → k < length ts → run start (take k ts) ≡ Some n → PreClean start (take k ts) (drop k ts) → run start (take (suc k) ts) ≡ None → Stops ts k
+told_stop ts k n l e c o =
+    at_token l (beginning (take k ts) (drop k ts) n e c) (λ b. not_beginning (take (suc k) ts) o (subst (λ j. AreBeginning (take j ts)) (add-one k) b))
+
+told_by : (ts : List Spelled) (k : ℕ) (f : Fault) → Halted start ts k f → ToldOf ts k f
+told_by ts k f h = elim (h.how) [
+  | inl a ↦ subst (ToldOf ts k) (sym a.0) (told_outside ts k (h.stage) a.1 (h.before) (h.clean) a.2)
+  | inr (inl a) ↦ subst (ToldOf ts k) (sym a.0) (told_stop ts k (h.stage) a.1 (h.before) (h.clean) a.2)
+  | inr (inr a) ↦ subst (ToldOf ts k) (sym a.0) (told_end ts k (h.stage) a.1 (h.before) (h.clean) a.2)
+]
+
+from_zero : (k : ℕ) → 0 + k ≡ k
+from_zero k = omega arith
+
+told_from : (ts : List Spelled) (o : Option Wrong) → wrong 0 start ts ≡ o → Told ts o
+told_from ts None e =
+    let r = right ts 0 start e in
+    let u = unit_read ts (r.last) (r.run) (r.ended) (r.clean) in
+    (u.part, u.unit)
+told_from ts (Some w) e =
+    let r = halted ts 0 w start e in
+    subst (λ k. ToldOf ts k w.fault) (sym (r.place ∙ from_zero (r.passed))) (told_by ts (r.passed) w.fault (r.halted))
+
+pub told : (ts : List Spelled) → Told ts (wrong 0 start ts)
+told ts = told_from ts (wrong 0 start ts) refl

@@ -565,3 +565,9 @@ ToldOf ts i outside = IsOutside ts i
 abbrev pub Told : List Spelled → Option Wrong → Type 0
 Told ts None = (u : TranslationUnit) × IsDeepUnit ts u
 Told ts (Some w) = ToldOf ts w.token w.fault
+
+-- The walk comes to the end of these tokens, where a unit may end.
+pub record IsTaken (ts : List Spelled) : Type 0 where
+  pub last : Stage
+  pub run : run start ts ≡ Some last
+  pub ended : is_over last ≡ true
