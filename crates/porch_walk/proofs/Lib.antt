@@ -11,4 +11,5 @@ pub mod Passes
 pub mod Sound
 pub mod Tokens
 pub mod Units
+pub mod Upward
 pub mod Words
