@@ -18,6 +18,11 @@ abbrev pub TookAt : Bool → Option Stage → Option Stage → Type 0
 TookAt true o p = o ≡ p
 TookAt false o p = o ≡ None
 
+-- a step that takes the word or leaves out what it could be
+abbrev pub LeftAt : Bool → Option Stage → Option Stage → Option Stage → Type 0
+LeftAt true o other p = o ≡ p
+LeftAt false o other p = o ≡ other
+
 abbrev pub Took : Given → Bool → List Symbol → Type 0
 Took o b ss = (types : List (List ℕ)) (fresh : List ℕ) (i : Bool) → TookAt b (o types fresh i) (goes types fresh i ss)
 
