@@ -6,6 +6,7 @@
 #![tactic(auto)]
 
 pub mod laws;
+mod advance;
 mod step;
 pub mod symbol;
 pub mod worked;

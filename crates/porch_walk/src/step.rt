@@ -1,10 +1,10 @@
 //! Single steps of the walk: what is pending behind one more word.
 
-ghost use Rattle.std.specs.Prelude.{◌≡◌, ◌++◌, IfOk, MatchOption, [], ◌∷◌, ◌&&◌, if◌then◌else◌, None, List, ℕ, Bool};
+ghost use Rattle.std.specs.Prelude.{◌≡◌, ◌++◌, ◌&&◌, [], ◌∷◌, IfOk, MatchOption, List, ℕ, Bool};
 ghost use Rattle.porch_walk.specs.declared.symbol.Symbol.TheVariants as sym;
 ghost use Rattle.porch_walk.specs.declared.symbol.Naming.TheVariants as naming;
-ghost use Rattle.porch_walk.specs.Walk.{keyword_number, mark_number, word_number, is as is_word, is_infix, is_assigning, rest_of, takes_type, behind_type, may_name, may_lack, brackets_of, contents, kinds_of, goes, nested, base_of, operand, declarator, statement, behind};
-ghost use Rattle.porch_walk.specs.inside.Steps.{upward, Took, TookAt, LeftAt, TurnedAt, Same, pushed, heard_as, Turned, Untouched};
+ghost use Rattle.porch_walk.specs.Walk.{keyword_number, mark_number, word_number, is as is_word, is_infix, is_assigning, rest_of, takes_type, behind_type, contents, kinds_of, nested, base_of, operand, statement};
+ghost use Rattle.porch_walk.specs.inside.Steps.{upward, Took, Same, pushed, Turned, Untouched, Begun};
 
 use crate::symbol::{Kinds, Mode, Naming, Symbol};
 use porch_tree::{Keyword, Mark, TagSort, Word};
@@ -12,7 +12,7 @@ use std::alloc::AllocError;
 
 /// What a symbol did with a word.
 #[derive(Clone, Copy, Debug)]
-pub enum Turn {
+pub(crate) enum Turn {
     Took,
     Refused,
     /// The symbol is left out here.
@@ -129,7 +129,7 @@ fn number(word: Word) -> u8
     }
 }
 
-pub fn is(word: Word, other: Word) -> bool
+pub(crate) fn is(word: Word, other: Word) -> bool
     ensures { result ≡ is_word word other }
 {
     number(word) == number(other)
@@ -163,15 +163,16 @@ fn assigning(word: Word) -> bool
 }
 
 #[tactic(auto, using(crate::proofs::Upward::upward_append))]
-pub fn put(pending: &mut Vec<Symbol>, symbols: &[Symbol]) -> Result<(), AllocError>
-    ensures { IfOk result (λ _. upward pending.new.items ≡ upward symbols.now ++ upward pending.old.items) }
+pub(crate) fn put(pending: &mut Vec<Symbol>, symbols: &[Symbol]) -> Result<(), AllocError>
+    ensures { IfOk result
+        (λ _. upward pending.new.items ≡ upward symbols.now ++ upward pending.old.items) }
 {
     pending.extend_from_slice(symbols)?;
     Ok(())
 }
 
 #[tactic(auto, using(crate::proofs::Upward::upward_append))]
-pub fn next(pending: &mut Vec<Symbol>) -> Option<Symbol>
+pub(crate) fn next(pending: &mut Vec<Symbol>) -> Option<Symbol>
     ensures { MatchOption result ((upward pending.old.items ≡ []) × (upward pending.new.items ≡ []))
         (λ s. upward pending.old.items ≡ s ∷ upward pending.new.items) }
 {
@@ -229,8 +230,9 @@ fn kinds_with(seen: Kinds, word: Word) -> Option<Kinds>
 }
 
 /// What is pending behind the first word of a base, if the word is one.
-pub fn base_symbol(word: Word, known: bool) -> Option<Symbol>
-    ensures { (types : List (List ℕ)) (fresh : List ℕ) (i : Bool) (ss : List _) → base_of types fresh i ss word known ≡ pushed types fresh i ss result }
+pub(crate) fn base_symbol(word: Word, known: bool) -> Option<Symbol>
+    ensures { (types : List (List ℕ)) (fresh : List ℕ) (i : Bool) (ss : List _)
+        → base_of types fresh i ss word known ≡ pushed types fresh i ss result }
 {
     match word {
         Word::Name => {
@@ -250,7 +252,10 @@ pub fn base_symbol(word: Word, known: bool) -> Option<Symbol>
 
 /// An operand in front of these symbols.
 fn begin_operand(pending: &mut Vec<Symbol>, under: &[Symbol], below: &[Symbol], mode: Mode, word: Word) -> Result<bool, AllocError>
-    ensures took { IfOk result (λ b. Took (λ ts f i. operand ts f i mode (upward below.now ++ (upward under.now ++ upward pending.old.items)) word) b (upward pending.new.items)) }
+    ensures took { IfOk result (λ b. Took
+        (λ ts f i. operand ts f i mode
+            (upward below.now ++ (upward under.now ++ upward pending.old.items)) word)
+        b (upward pending.new.items)) }
     ensures same { IfOk result (λ b. Same b (upward pending.old.items) (upward pending.new.items)) }
 {
     match word {
@@ -300,7 +305,8 @@ fn begin_operand(pending: &mut Vec<Symbol>, under: &[Symbol], below: &[Symbol], 
 }
 
 fn must_turn(pending: &mut Vec<Symbol>, wanted: Word, word: Word, known: bool) -> Result<Turn, AllocError>
-    ensures turned { IfOk result (λ t. Turned known (sym.Must wanted ∷ upward pending.old.items) t word (upward pending.old.items) (upward pending.new.items)) }
+    ensures turned { IfOk result (λ t. Turned known (sym.Must wanted ∷ upward pending.old.items) t word
+        (upward pending.old.items) (upward pending.new.items)) }
     ensures untouched { IfOk result (λ t. Untouched t (upward pending.old.items) (upward pending.new.items)) }
 {
     if is(word, wanted) {
@@ -311,7 +317,8 @@ fn must_turn(pending: &mut Vec<Symbol>, wanted: Word, word: Word, known: bool) -
 }
 
 fn texts_turn(pending: &mut Vec<Symbol>, word: Word, known: bool) -> Result<Turn, AllocError>
-    ensures turned { IfOk result (λ t. Turned known (sym.Texts ∷ upward pending.old.items) t word (upward pending.old.items) (upward pending.new.items)) }
+    ensures turned { IfOk result (λ t. Turned known (sym.Texts ∷ upward pending.old.items) t word
+        (upward pending.old.items) (upward pending.new.items)) }
     ensures untouched { IfOk result (λ t. Untouched t (upward pending.old.items) (upward pending.new.items)) }
 {
     if is(word, Word::Text) {
@@ -323,7 +330,8 @@ fn texts_turn(pending: &mut Vec<Symbol>, word: Word, known: bool) -> Result<Turn
 }
 
 fn suffixes_turn(pending: &mut Vec<Symbol>, word: Word, known: bool) -> Result<Turn, AllocError>
-    ensures turned { IfOk result (λ t. Turned known (sym.Suffixes ∷ upward pending.old.items) t word (upward pending.old.items) (upward pending.new.items)) }
+    ensures turned { IfOk result (λ t. Turned known (sym.Suffixes ∷ upward pending.old.items) t word
+        (upward pending.old.items) (upward pending.new.items)) }
     ensures untouched { IfOk result (λ t. Untouched t (upward pending.old.items) (upward pending.new.items)) }
 {
     match word {
@@ -354,7 +362,8 @@ fn assigns(unary: bool, word: Word) -> bool
 }
 
 fn behind_turn(pending: &mut Vec<Symbol>, unary: bool, word: Word, known: bool) -> Result<Turn, AllocError>
-    ensures turned { IfOk result (λ t. Turned known (sym.Behind unary ∷ upward pending.old.items) t word (upward pending.old.items) (upward pending.new.items)) }
+    ensures turned { IfOk result (λ t. Turned known (sym.Behind unary ∷ upward pending.old.items) t word
+        (upward pending.old.items) (upward pending.new.items)) }
     ensures untouched { IfOk result (λ t. Untouched t (upward pending.old.items) (upward pending.new.items)) }
 {
     if infix(word) {
@@ -372,7 +381,8 @@ fn behind_turn(pending: &mut Vec<Symbol>, unary: bool, word: Word, known: bool) 
 }
 
 fn commas_turn(pending: &mut Vec<Symbol>, word: Word, known: bool) -> Result<Turn, AllocError>
-    ensures turned { IfOk result (λ t. Turned known (sym.Commas ∷ upward pending.old.items) t word (upward pending.old.items) (upward pending.new.items)) }
+    ensures turned { IfOk result (λ t. Turned known (sym.Commas ∷ upward pending.old.items) t word
+        (upward pending.old.items) (upward pending.new.items)) }
     ensures untouched { IfOk result (λ t. Untouched t (upward pending.old.items) (upward pending.new.items)) }
 {
     if is(word, Word::Mark(Mark::Comma)) {
@@ -384,7 +394,8 @@ fn commas_turn(pending: &mut Vec<Symbol>, word: Word, known: bool) -> Result<Tur
 }
 
 fn operand_turn(pending: &mut Vec<Symbol>, mode: Mode, word: Word, known: bool) -> Result<Turn, AllocError>
-    ensures turned { IfOk result (λ t. Turned known (sym.Operand mode ∷ upward pending.old.items) t word (upward pending.old.items) (upward pending.new.items)) }
+    ensures turned { IfOk result (λ t. Turned known (sym.Operand mode ∷ upward pending.old.items) t word
+        (upward pending.old.items) (upward pending.new.items)) }
     ensures untouched { IfOk result (λ t. Untouched t (upward pending.old.items) (upward pending.new.items)) }
 {
     if begin_operand(pending, &[], &[], mode, word)? {
@@ -395,7 +406,8 @@ fn operand_turn(pending: &mut Vec<Symbol>, mode: Mode, word: Word, known: bool) 
 }
 
 fn optional_turn(pending: &mut Vec<Symbol>, word: Word, known: bool) -> Result<Turn, AllocError>
-    ensures turned { IfOk result (λ t. Turned known (sym.Optional ∷ upward pending.old.items) t word (upward pending.old.items) (upward pending.new.items)) }
+    ensures turned { IfOk result (λ t. Turned known (sym.Optional ∷ upward pending.old.items) t word
+        (upward pending.old.items) (upward pending.new.items)) }
     ensures untouched { IfOk result (λ t. Untouched t (upward pending.old.items) (upward pending.new.items)) }
 {
     if begin_operand(pending, &[], &[Symbol::Commas], Mode::Assign, word)? {
@@ -407,7 +419,8 @@ fn optional_turn(pending: &mut Vec<Symbol>, word: Word, known: bool) -> Result<T
 
 /// An expression in parentheses of which the first has been read.
 fn begin_nested(pending: &mut Vec<Symbol>, mode: Mode, word: Word) -> Result<bool, AllocError>
-    ensures { IfOk result (λ b. Took (λ ts f i. nested ts f i mode (upward pending.old.items) word) b (upward pending.new.items)) }
+    ensures { IfOk result (λ b. Took (λ ts f i. nested ts f i mode (upward pending.old.items) word)
+        b (upward pending.new.items)) }
 {
     put_rest(pending, mode)?;
     begin_operand(
@@ -420,7 +433,8 @@ fn begin_nested(pending: &mut Vec<Symbol>, mode: Mode, word: Word) -> Result<boo
 }
 
 fn open_turn(pending: &mut Vec<Symbol>, mode: Mode, word: Word, known: bool) -> Result<Turn, AllocError>
-    ensures turned { IfOk result (λ t. Turned known (sym.Open mode ∷ upward pending.old.items) t word (upward pending.old.items) (upward pending.new.items)) }
+    ensures turned { IfOk result (λ t. Turned known (sym.Open mode ∷ upward pending.old.items) t word
+        (upward pending.old.items) (upward pending.new.items)) }
     ensures untouched { IfOk result (λ t. Untouched t (upward pending.old.items) (upward pending.new.items)) }
 {
     if takes(mode) {
@@ -442,7 +456,8 @@ fn open_turn(pending: &mut Vec<Symbol>, mode: Mode, word: Word, known: bool) -> 
 }
 
 fn base_turn(pending: &mut Vec<Symbol>, word: Word, known: bool) -> Result<Turn, AllocError>
-    ensures turned { IfOk result (λ t. Turned known (sym.Base ∷ upward pending.old.items) t word (upward pending.old.items) (upward pending.new.items)) }
+    ensures turned { IfOk result (λ t. Turned known (sym.Base ∷ upward pending.old.items) t word
+        (upward pending.old.items) (upward pending.new.items)) }
     ensures untouched { IfOk result (λ t. Untouched t (upward pending.old.items) (upward pending.new.items)) }
 {
     match base_symbol(word, known) {
@@ -455,7 +470,8 @@ fn base_turn(pending: &mut Vec<Symbol>, word: Word, known: bool) -> Result<Turn,
 }
 
 fn kind_turn(pending: &mut Vec<Symbol>, seen: Kinds, word: Word, known: bool) -> Result<Turn, AllocError>
-    ensures turned { IfOk result (λ t. Turned known (sym.Kind seen ∷ upward pending.old.items) t word (upward pending.old.items) (upward pending.new.items)) }
+    ensures turned { IfOk result (λ t. Turned known (sym.Kind seen ∷ upward pending.old.items) t word
+        (upward pending.old.items) (upward pending.new.items)) }
     ensures untouched { IfOk result (λ t. Untouched t (upward pending.old.items) (upward pending.new.items)) }
 {
     match kinds_with(seen, word) {
@@ -468,7 +484,8 @@ fn kind_turn(pending: &mut Vec<Symbol>, seen: Kinds, word: Word, known: bool) ->
 }
 
 fn consts_turn(pending: &mut Vec<Symbol>, word: Word, known: bool) -> Result<Turn, AllocError>
-    ensures turned { IfOk result (λ t. Turned known (sym.Consts ∷ upward pending.old.items) t word (upward pending.old.items) (upward pending.new.items)) }
+    ensures turned { IfOk result (λ t. Turned known (sym.Consts ∷ upward pending.old.items) t word
+        (upward pending.old.items) (upward pending.new.items)) }
     ensures untouched { IfOk result (λ t. Untouched t (upward pending.old.items) (upward pending.new.items)) }
 {
     if is(word, Word::Key(Keyword::Const)) {
@@ -495,7 +512,8 @@ fn put_contents(pending: &mut Vec<Symbol>, sort: TagSort) -> Result<(), AllocErr
 }
 
 fn tag_turn(pending: &mut Vec<Symbol>, sort: TagSort, word: Word, known: bool) -> Result<Turn, AllocError>
-    ensures turned { IfOk result (λ t. Turned known (sym.Tag sort ∷ upward pending.old.items) t word (upward pending.old.items) (upward pending.new.items)) }
+    ensures turned { IfOk result (λ t. Turned known (sym.Tag sort ∷ upward pending.old.items) t word
+        (upward pending.old.items) (upward pending.new.items)) }
     ensures untouched { IfOk result (λ t. Untouched t (upward pending.old.items) (upward pending.new.items)) }
 {
     if is(word, Word::Name) {
@@ -510,7 +528,8 @@ fn tag_turn(pending: &mut Vec<Symbol>, sort: TagSort, word: Word, known: bool) -
 }
 
 fn tag_body_turn(pending: &mut Vec<Symbol>, sort: TagSort, word: Word, known: bool) -> Result<Turn, AllocError>
-    ensures turned { IfOk result (λ t. Turned known (sym.TagBody sort ∷ upward pending.old.items) t word (upward pending.old.items) (upward pending.new.items)) }
+    ensures turned { IfOk result (λ t. Turned known (sym.TagBody sort ∷ upward pending.old.items) t word
+        (upward pending.old.items) (upward pending.new.items)) }
     ensures untouched { IfOk result (λ t. Untouched t (upward pending.old.items) (upward pending.new.items)) }
 {
     if is(word, Word::Mark(Mark::OpenBrace)) {
@@ -525,7 +544,8 @@ fn tag_body_turn(pending: &mut Vec<Symbol>, sort: TagSort, word: Word, known: bo
 }
 
 fn fields_turn(pending: &mut Vec<Symbol>, word: Word, known: bool) -> Result<Turn, AllocError>
-    ensures turned { IfOk result (λ t. Turned known (sym.Fields ∷ upward pending.old.items) t word (upward pending.old.items) (upward pending.new.items)) }
+    ensures turned { IfOk result (λ t. Turned known (sym.Fields ∷ upward pending.old.items) t word
+        (upward pending.old.items) (upward pending.new.items)) }
     ensures untouched { IfOk result (λ t. Untouched t (upward pending.old.items) (upward pending.new.items)) }
 {
     if is(word, Word::Mark(Mark::CloseBrace)) {
@@ -542,7 +562,8 @@ fn fields_turn(pending: &mut Vec<Symbol>, word: Word, known: bool) -> Result<Tur
 }
 
 fn more_declarators_turn(pending: &mut Vec<Symbol>, word: Word, known: bool) -> Result<Turn, AllocError>
-    ensures turned { IfOk result (λ t. Turned known (sym.MoreDeclarators ∷ upward pending.old.items) t word (upward pending.old.items) (upward pending.new.items)) }
+    ensures turned { IfOk result (λ t. Turned known (sym.MoreDeclarators ∷ upward pending.old.items) t word
+        (upward pending.old.items) (upward pending.new.items)) }
     ensures untouched { IfOk result (λ t. Untouched t (upward pending.old.items) (upward pending.new.items)) }
 {
     if is(word, Word::Mark(Mark::Comma)) {
@@ -556,7 +577,8 @@ fn more_declarators_turn(pending: &mut Vec<Symbol>, word: Word, known: bool) -> 
 }
 
 fn constant_value_turn(pending: &mut Vec<Symbol>, word: Word, known: bool) -> Result<Turn, AllocError>
-    ensures turned { IfOk result (λ t. Turned known (sym.ConstantValue ∷ upward pending.old.items) t word (upward pending.old.items) (upward pending.new.items)) }
+    ensures turned { IfOk result (λ t. Turned known (sym.ConstantValue ∷ upward pending.old.items) t word
+        (upward pending.old.items) (upward pending.new.items)) }
     ensures untouched { IfOk result (λ t. Untouched t (upward pending.old.items) (upward pending.new.items)) }
 {
     if is(word, Word::Mark(Mark::Equal)) {
@@ -568,7 +590,8 @@ fn constant_value_turn(pending: &mut Vec<Symbol>, word: Word, known: bool) -> Re
 }
 
 fn constants_turn(pending: &mut Vec<Symbol>, word: Word, known: bool) -> Result<Turn, AllocError>
-    ensures turned { IfOk result (λ t. Turned known (sym.Constants ∷ upward pending.old.items) t word (upward pending.old.items) (upward pending.new.items)) }
+    ensures turned { IfOk result (λ t. Turned known (sym.Constants ∷ upward pending.old.items) t word
+        (upward pending.old.items) (upward pending.new.items)) }
     ensures untouched { IfOk result (λ t. Untouched t (upward pending.old.items) (upward pending.new.items)) }
 {
     if is(word, Word::Mark(Mark::Comma)) {
@@ -582,7 +605,8 @@ fn constants_turn(pending: &mut Vec<Symbol>, word: Word, known: bool) -> Result<
 }
 
 fn brackets_turn(pending: &mut Vec<Symbol>, word: Word, known: bool) -> Result<Turn, AllocError>
-    ensures turned { IfOk result (λ t. Turned known (sym.Brackets ∷ upward pending.old.items) t word (upward pending.old.items) (upward pending.new.items)) }
+    ensures turned { IfOk result (λ t. Turned known (sym.Brackets ∷ upward pending.old.items) t word
+        (upward pending.old.items) (upward pending.new.items)) }
     ensures untouched { IfOk result (λ t. Untouched t (upward pending.old.items) (upward pending.new.items)) }
 {
     if is(word, Word::Mark(Mark::OpenBracket)) {
@@ -597,7 +621,8 @@ fn brackets_turn(pending: &mut Vec<Symbol>, word: Word, known: bool) -> Result<T
 }
 
 fn counts_turn(pending: &mut Vec<Symbol>, word: Word, known: bool) -> Result<Turn, AllocError>
-    ensures turned { IfOk result (λ t. Turned known (sym.Counts ∷ upward pending.old.items) t word (upward pending.old.items) (upward pending.new.items)) }
+    ensures turned { IfOk result (λ t. Turned known (sym.Counts ∷ upward pending.old.items) t word
+        (upward pending.old.items) (upward pending.new.items)) }
     ensures untouched { IfOk result (λ t. Untouched t (upward pending.old.items) (upward pending.new.items)) }
 {
     if is(word, Word::Mark(Mark::OpenBracket)) {
@@ -609,7 +634,8 @@ fn counts_turn(pending: &mut Vec<Symbol>, word: Word, known: bool) -> Result<Tur
 }
 
 fn count_turn(pending: &mut Vec<Symbol>, word: Word, known: bool) -> Result<Turn, AllocError>
-    ensures turned { IfOk result (λ t. Turned known (sym.Count ∷ upward pending.old.items) t word (upward pending.old.items) (upward pending.new.items)) }
+    ensures turned { IfOk result (λ t. Turned known (sym.Count ∷ upward pending.old.items) t word
+        (upward pending.old.items) (upward pending.new.items)) }
     ensures untouched { IfOk result (λ t. Untouched t (upward pending.old.items) (upward pending.new.items)) }
 {
     if is(word, Word::Mark(Mark::CloseBracket)) {
@@ -622,7 +648,8 @@ fn count_turn(pending: &mut Vec<Symbol>, word: Word, known: bool) -> Result<Turn
 }
 
 fn more_parameters_turn(pending: &mut Vec<Symbol>, word: Word, known: bool) -> Result<Turn, AllocError>
-    ensures turned { IfOk result (λ t. Turned known (sym.MoreParameters ∷ upward pending.old.items) t word (upward pending.old.items) (upward pending.new.items)) }
+    ensures turned { IfOk result (λ t. Turned known (sym.MoreParameters ∷ upward pending.old.items) t word
+        (upward pending.old.items) (upward pending.new.items)) }
     ensures untouched { IfOk result (λ t. Untouched t (upward pending.old.items) (upward pending.new.items)) }
 {
     if is(word, Word::Mark(Mark::Comma)) {
@@ -636,7 +663,8 @@ fn more_parameters_turn(pending: &mut Vec<Symbol>, word: Word, known: bool) -> R
 }
 
 fn more_entries_turn(pending: &mut Vec<Symbol>, word: Word, known: bool) -> Result<Turn, AllocError>
-    ensures turned { IfOk result (λ t. Turned known (sym.MoreEntries ∷ upward pending.old.items) t word (upward pending.old.items) (upward pending.new.items)) }
+    ensures turned { IfOk result (λ t. Turned known (sym.MoreEntries ∷ upward pending.old.items) t word
+        (upward pending.old.items) (upward pending.new.items)) }
     ensures untouched { IfOk result (λ t. Untouched t (upward pending.old.items) (upward pending.new.items)) }
 {
     if is(word, Word::Mark(Mark::Comma)) {
@@ -650,7 +678,8 @@ fn more_entries_turn(pending: &mut Vec<Symbol>, word: Word, known: bool) -> Resu
 }
 
 fn entry_turn(pending: &mut Vec<Symbol>, word: Word, known: bool) -> Result<Turn, AllocError>
-    ensures turned { IfOk result (λ t. Turned known (sym.Entry ∷ upward pending.old.items) t word (upward pending.old.items) (upward pending.new.items)) }
+    ensures turned { IfOk result (λ t. Turned known (sym.Entry ∷ upward pending.old.items) t word
+        (upward pending.old.items) (upward pending.new.items)) }
     ensures untouched { IfOk result (λ t. Untouched t (upward pending.old.items) (upward pending.new.items)) }
 {
     if is(word, Word::Mark(Mark::Equal)) {
@@ -662,7 +691,8 @@ fn entry_turn(pending: &mut Vec<Symbol>, word: Word, known: bool) -> Result<Turn
 }
 
 fn initial_turn(pending: &mut Vec<Symbol>, word: Word, known: bool) -> Result<Turn, AllocError>
-    ensures turned { IfOk result (λ t. Turned known (sym.Initial ∷ upward pending.old.items) t word (upward pending.old.items) (upward pending.new.items)) }
+    ensures turned { IfOk result (λ t. Turned known (sym.Initial ∷ upward pending.old.items) t word
+        (upward pending.old.items) (upward pending.new.items)) }
     ensures untouched { IfOk result (λ t. Untouched t (upward pending.old.items) (upward pending.new.items)) }
 {
     if is(word, Word::Mark(Mark::OpenBrace)) {
@@ -676,7 +706,8 @@ fn initial_turn(pending: &mut Vec<Symbol>, word: Word, known: bool) -> Result<Tu
 }
 
 fn more_initials_turn(pending: &mut Vec<Symbol>, word: Word, known: bool) -> Result<Turn, AllocError>
-    ensures turned { IfOk result (λ t. Turned known (sym.MoreInitials ∷ upward pending.old.items) t word (upward pending.old.items) (upward pending.new.items)) }
+    ensures turned { IfOk result (λ t. Turned known (sym.MoreInitials ∷ upward pending.old.items) t word
+        (upward pending.old.items) (upward pending.new.items)) }
     ensures untouched { IfOk result (λ t. Untouched t (upward pending.old.items) (upward pending.new.items)) }
 {
     if is(word, Word::Mark(Mark::Comma)) {
@@ -690,7 +721,8 @@ fn more_initials_turn(pending: &mut Vec<Symbol>, word: Word, known: bool) -> Res
 }
 
 fn next_initial_turn(pending: &mut Vec<Symbol>, word: Word, known: bool) -> Result<Turn, AllocError>
-    ensures turned { IfOk result (λ t. Turned known (sym.NextInitial ∷ upward pending.old.items) t word (upward pending.old.items) (upward pending.new.items)) }
+    ensures turned { IfOk result (λ t. Turned known (sym.NextInitial ∷ upward pending.old.items) t word
+        (upward pending.old.items) (upward pending.new.items)) }
     ensures untouched { IfOk result (λ t. Untouched t (upward pending.old.items) (upward pending.new.items)) }
 {
     if is(word, Word::Mark(Mark::CloseBrace)) {
@@ -706,7 +738,8 @@ fn next_initial_turn(pending: &mut Vec<Symbol>, word: Word, known: bool) -> Resu
 }
 
 fn end_typedef_turn(pending: &mut Vec<Symbol>, word: Word, known: bool) -> Result<Turn, AllocError>
-    ensures turned { IfOk result (λ t. Turned known (sym.EndTypedef ∷ upward pending.old.items) t word (upward pending.old.items) (upward pending.new.items)) }
+    ensures turned { IfOk result (λ t. Turned known (sym.EndTypedef ∷ upward pending.old.items) t word
+        (upward pending.old.items) (upward pending.new.items)) }
     ensures untouched { IfOk result (λ t. Untouched t (upward pending.old.items) (upward pending.new.items)) }
 {
     if is(word, Word::Mark(Mark::Semicolon)) {
@@ -717,7 +750,8 @@ fn end_typedef_turn(pending: &mut Vec<Symbol>, word: Word, known: bool) -> Resul
 }
 
 fn first_entry_turn(pending: &mut Vec<Symbol>, word: Word, known: bool) -> Result<Turn, AllocError>
-    ensures turned { IfOk result (λ t. Turned known (sym.FirstEntry ∷ upward pending.old.items) t word (upward pending.old.items) (upward pending.new.items)) }
+    ensures turned { IfOk result (λ t. Turned known (sym.FirstEntry ∷ upward pending.old.items) t word
+        (upward pending.old.items) (upward pending.new.items)) }
     ensures untouched { IfOk result (λ t. Untouched t (upward pending.old.items) (upward pending.new.items)) }
 {
     if is(word, Word::Mark(Mark::OpenBrace)) {
@@ -729,7 +763,8 @@ fn first_entry_turn(pending: &mut Vec<Symbol>, word: Word, known: bool) -> Resul
 }
 
 fn else_turn(pending: &mut Vec<Symbol>, word: Word, known: bool) -> Result<Turn, AllocError>
-    ensures turned { IfOk result (λ t. Turned known (sym.Else ∷ upward pending.old.items) t word (upward pending.old.items) (upward pending.new.items)) }
+    ensures turned { IfOk result (λ t. Turned known (sym.Else ∷ upward pending.old.items) t word
+        (upward pending.old.items) (upward pending.new.items)) }
     ensures untouched { IfOk result (λ t. Untouched t (upward pending.old.items) (upward pending.new.items)) }
 {
     if is(word, Word::Key(Keyword::Else)) {
@@ -741,7 +776,8 @@ fn else_turn(pending: &mut Vec<Symbol>, word: Word, known: bool) -> Result<Turn,
 }
 
 fn named_turn(pending: &mut Vec<Symbol>, word: Word, known: bool) -> Result<Turn, AllocError>
-    ensures turned { IfOk result (λ t. Turned known (sym.Declarator naming.Must ∷ upward pending.old.items) t word (upward pending.old.items) (upward pending.new.items)) }
+    ensures turned { IfOk result (λ t. Turned known (sym.Declarator naming.Must ∷ upward pending.old.items) t word
+        (upward pending.old.items) (upward pending.new.items)) }
     ensures untouched { IfOk result (λ t. Untouched t (upward pending.old.items) (upward pending.new.items)) }
 {
     if is(word, Word::Mark(Mark::Star)) {
@@ -759,7 +795,8 @@ fn named_turn(pending: &mut Vec<Symbol>, word: Word, known: bool) -> Result<Turn
 }
 
 fn typedef_turn(pending: &mut Vec<Symbol>, word: Word, known: bool) -> Result<Turn, AllocError>
-    ensures turned { IfOk result (λ t. Turned known (sym.Declarator naming.Typedef ∷ upward pending.old.items) t word (upward pending.old.items) (upward pending.new.items)) }
+    ensures turned { IfOk result (λ t. Turned known (sym.Declarator naming.Typedef ∷ upward pending.old.items) t word
+        (upward pending.old.items) (upward pending.new.items)) }
     ensures untouched { IfOk result (λ t. Untouched t (upward pending.old.items) (upward pending.new.items)) }
 {
     if is(word, Word::Mark(Mark::Star)) {
@@ -777,7 +814,8 @@ fn typedef_turn(pending: &mut Vec<Symbol>, word: Word, known: bool) -> Result<Tu
 }
 
 fn parameter_turn(pending: &mut Vec<Symbol>, word: Word, known: bool) -> Result<Turn, AllocError>
-    ensures turned { IfOk result (λ t. Turned known (sym.Declarator naming.May ∷ upward pending.old.items) t word (upward pending.old.items) (upward pending.new.items)) }
+    ensures turned { IfOk result (λ t. Turned known (sym.Declarator naming.May ∷ upward pending.old.items) t word
+        (upward pending.old.items) (upward pending.new.items)) }
     ensures untouched { IfOk result (λ t. Untouched t (upward pending.old.items) (upward pending.new.items)) }
 {
     if is(word, Word::Mark(Mark::Star)) {
@@ -798,7 +836,8 @@ fn parameter_turn(pending: &mut Vec<Symbol>, word: Word, known: bool) -> Result<
 }
 
 fn abstract_turn(pending: &mut Vec<Symbol>, word: Word, known: bool) -> Result<Turn, AllocError>
-    ensures turned { IfOk result (λ t. Turned known (sym.Declarator naming.Abstract ∷ upward pending.old.items) t word (upward pending.old.items) (upward pending.new.items)) }
+    ensures turned { IfOk result (λ t. Turned known (sym.Declarator naming.Abstract ∷ upward pending.old.items) t word
+        (upward pending.old.items) (upward pending.new.items)) }
     ensures untouched { IfOk result (λ t. Untouched t (upward pending.old.items) (upward pending.new.items)) }
 {
     if is(word, Word::Mark(Mark::Star)) {
@@ -813,7 +852,8 @@ fn abstract_turn(pending: &mut Vec<Symbol>, word: Word, known: bool) -> Result<T
 }
 
 fn declarator_turn(pending: &mut Vec<Symbol>, naming: Naming, word: Word, known: bool) -> Result<Turn, AllocError>
-    ensures turned { IfOk result (λ t. Turned known (sym.Declarator naming ∷ upward pending.old.items) t word (upward pending.old.items) (upward pending.new.items)) }
+    ensures turned { IfOk result (λ t. Turned known (sym.Declarator naming ∷ upward pending.old.items) t word
+        (upward pending.old.items) (upward pending.new.items)) }
     ensures untouched { IfOk result (λ t. Untouched t (upward pending.old.items) (upward pending.new.items)) }
 {
     match naming {
@@ -825,7 +865,8 @@ fn declarator_turn(pending: &mut Vec<Symbol>, naming: Naming, word: Word, known:
 }
 
 fn pointer_turn(pending: &mut Vec<Symbol>, naming: Naming, word: Word, known: bool) -> Result<Turn, AllocError>
-    ensures turned { IfOk result (λ t. Turned known (sym.Pointer naming ∷ upward pending.old.items) t word (upward pending.old.items) (upward pending.new.items)) }
+    ensures turned { IfOk result (λ t. Turned known (sym.Pointer naming ∷ upward pending.old.items) t word
+        (upward pending.old.items) (upward pending.new.items)) }
     ensures untouched { IfOk result (λ t. Untouched t (upward pending.old.items) (upward pending.new.items)) }
 {
     if is(word, Word::Key(Keyword::Const)) {
@@ -837,7 +878,8 @@ fn pointer_turn(pending: &mut Vec<Symbol>, naming: Naming, word: Word, known: bo
 }
 
 fn nameless_turn(pending: &mut Vec<Symbol>, word: Word, known: bool) -> Result<Turn, AllocError>
-    ensures turned { IfOk result (λ t. Turned known (sym.Nameless ∷ upward pending.old.items) t word (upward pending.old.items) (upward pending.new.items)) }
+    ensures turned { IfOk result (λ t. Turned known (sym.Nameless ∷ upward pending.old.items) t word
+        (upward pending.old.items) (upward pending.new.items)) }
     ensures untouched { IfOk result (λ t. Untouched t (upward pending.old.items) (upward pending.new.items)) }
 {
     if is(word, Word::Mark(Mark::CloseParenthesis)) {
@@ -874,7 +916,8 @@ fn nameless_turn(pending: &mut Vec<Symbol>, word: Word, known: bool) -> Result<T
 }
 
 fn parameters_turn(pending: &mut Vec<Symbol>, word: Word, known: bool) -> Result<Turn, AllocError>
-    ensures turned { IfOk result (λ t. Turned known (sym.Parameters ∷ upward pending.old.items) t word (upward pending.old.items) (upward pending.new.items)) }
+    ensures turned { IfOk result (λ t. Turned known (sym.Parameters ∷ upward pending.old.items) t word
+        (upward pending.old.items) (upward pending.new.items)) }
     ensures untouched { IfOk result (λ t. Untouched t (upward pending.old.items) (upward pending.new.items)) }
 {
     if is(word, Word::Mark(Mark::CloseParenthesis)) {
@@ -894,7 +937,8 @@ fn parameters_turn(pending: &mut Vec<Symbol>, word: Word, known: bool) -> Result
 }
 
 fn void_turn(pending: &mut Vec<Symbol>, word: Word, known: bool) -> Result<Turn, AllocError>
-    ensures turned { IfOk result (λ t. Turned known (sym.Void ∷ upward pending.old.items) t word (upward pending.old.items) (upward pending.new.items)) }
+    ensures turned { IfOk result (λ t. Turned known (sym.Void ∷ upward pending.old.items) t word
+        (upward pending.old.items) (upward pending.new.items)) }
     ensures untouched { IfOk result (λ t. Untouched t (upward pending.old.items) (upward pending.new.items)) }
 {
     if is(word, Word::Mark(Mark::CloseParenthesis)) {
@@ -920,7 +964,8 @@ fn void_turn(pending: &mut Vec<Symbol>, word: Word, known: bool) -> Result<Turn,
 }
 
 fn entries_turn(pending: &mut Vec<Symbol>, word: Word, known: bool) -> Result<Turn, AllocError>
-    ensures turned { IfOk result (λ t. Turned known (sym.Entries ∷ upward pending.old.items) t word (upward pending.old.items) (upward pending.new.items)) }
+    ensures turned { IfOk result (λ t. Turned known (sym.Entries ∷ upward pending.old.items) t word
+        (upward pending.old.items) (upward pending.new.items)) }
     ensures untouched { IfOk result (λ t. Untouched t (upward pending.old.items) (upward pending.new.items)) }
 {
     if is(word, Word::Mark(Mark::Semicolon)) {
@@ -940,7 +985,8 @@ fn entries_turn(pending: &mut Vec<Symbol>, word: Word, known: bool) -> Result<Tu
 }
 
 fn file_entries_turn(pending: &mut Vec<Symbol>, word: Word, known: bool) -> Result<Turn, AllocError>
-    ensures turned { IfOk result (λ t. Turned known (sym.FileEntries ∷ upward pending.old.items) t word (upward pending.old.items) (upward pending.new.items)) }
+    ensures turned { IfOk result (λ t. Turned known (sym.FileEntries ∷ upward pending.old.items) t word
+        (upward pending.old.items) (upward pending.new.items)) }
     ensures untouched { IfOk result (λ t. Untouched t (upward pending.old.items) (upward pending.new.items)) }
 {
     if is(word, Word::Mark(Mark::Semicolon)) {
@@ -961,7 +1007,9 @@ fn file_entries_turn(pending: &mut Vec<Symbol>, word: Word, known: bool) -> Resu
 
 /// A statement in front of these symbols.
 fn begin_statement(pending: &mut Vec<Symbol>, below: &[Symbol], word: Word) -> Result<bool, AllocError>
-    ensures took { IfOk result (λ b. Took (λ ts f i. statement ts f i (upward below.now ++ upward pending.old.items) word) b (upward pending.new.items)) }
+    ensures took { IfOk result (λ b. Took
+        (λ ts f i. statement ts f i (upward below.now ++ upward pending.old.items) word)
+        b (upward pending.new.items)) }
     ensures same { IfOk result (λ b. Same b (upward pending.old.items) (upward pending.new.items)) }
 {
     match word {
@@ -1014,21 +1062,24 @@ fn begin_statement(pending: &mut Vec<Symbol>, below: &[Symbol], word: Word) -> R
 }
 
 fn statement_turn(pending: &mut Vec<Symbol>, word: Word, known: bool) -> Result<Turn, AllocError>
-    ensures turned { IfOk result (λ t. Turned known (sym.Statement ∷ upward pending.old.items) t word (upward pending.old.items) (upward pending.new.items)) }
+    ensures turned { IfOk result (λ t. Turned known (sym.Statement ∷ upward pending.old.items) t word
+        (upward pending.old.items) (upward pending.new.items)) }
     ensures untouched { IfOk result (λ t. Untouched t (upward pending.old.items) (upward pending.new.items)) }
 {
     if begin_statement(pending, &[], word)? { Ok(Turn::Took) } else { Ok(Turn::Refused) }
 }
 
 fn statements_turn(pending: &mut Vec<Symbol>, word: Word, known: bool) -> Result<Turn, AllocError>
-    ensures turned { IfOk result (λ t. Turned known (sym.Statements ∷ upward pending.old.items) t word (upward pending.old.items) (upward pending.new.items)) }
+    ensures turned { IfOk result (λ t. Turned known (sym.Statements ∷ upward pending.old.items) t word
+        (upward pending.old.items) (upward pending.new.items)) }
     ensures untouched { IfOk result (λ t. Untouched t (upward pending.old.items) (upward pending.new.items)) }
 {
     if begin_statement(pending, &[Symbol::Statements], word)? { Ok(Turn::Took) } else { Ok(Turn::LeftOut) }
 }
 
 fn cases_turn(pending: &mut Vec<Symbol>, word: Word, known: bool) -> Result<Turn, AllocError>
-    ensures turned { IfOk result (λ t. Turned known (sym.Cases ∷ upward pending.old.items) t word (upward pending.old.items) (upward pending.new.items)) }
+    ensures turned { IfOk result (λ t. Turned known (sym.Cases ∷ upward pending.old.items) t word
+        (upward pending.old.items) (upward pending.new.items)) }
     ensures untouched { IfOk result (λ t. Untouched t (upward pending.old.items) (upward pending.new.items)) }
 {
     if is(word, Word::Key(Keyword::Case)) {
@@ -1043,7 +1094,8 @@ fn cases_turn(pending: &mut Vec<Symbol>, word: Word, known: bool) -> Result<Turn
 }
 
 fn body_turn(pending: &mut Vec<Symbol>, word: Word, known: bool) -> Result<Turn, AllocError>
-    ensures turned { IfOk result (λ t. Turned known (sym.Body ∷ upward pending.old.items) t word (upward pending.old.items) (upward pending.new.items)) }
+    ensures turned { IfOk result (λ t. Turned known (sym.Body ∷ upward pending.old.items) t word
+        (upward pending.old.items) (upward pending.new.items)) }
     ensures untouched { IfOk result (λ t. Untouched t (upward pending.old.items) (upward pending.new.items)) }
 {
     if is(word, Word::Key(Keyword::Static)) {
@@ -1063,8 +1115,9 @@ fn body_turn(pending: &mut Vec<Symbol>, word: Word, known: bool) -> Result<Turn,
 }
 
 /// What a symbol in front of what is pending does with a word.
-pub fn symbol_turn(pending: &mut Vec<Symbol>, symbol: Symbol, word: Word, known: bool) -> Result<Turn, AllocError>
-    ensures turned { IfOk result (λ t. Turned known (symbol ∷ upward pending.old.items) t word (upward pending.old.items) (upward pending.new.items)) }
+pub(crate) fn symbol_turn(pending: &mut Vec<Symbol>, symbol: Symbol, word: Word, known: bool) -> Result<Turn, AllocError>
+    ensures turned { IfOk result (λ t. Turned known (symbol ∷ upward pending.old.items) t word
+        (upward pending.old.items) (upward pending.new.items)) }
     ensures untouched { IfOk result (λ t. Untouched t (upward pending.old.items) (upward pending.new.items)) }
 {
     match symbol {
@@ -1108,5 +1161,27 @@ pub fn symbol_turn(pending: &mut Vec<Symbol>, symbol: Symbol, word: Word, known:
         Symbol::Statement => statement_turn(pending, word, known),
         Symbol::Else => else_turn(pending, word, known),
         Symbol::Cases => cases_turn(pending, word, known),
+    }
+}
+
+/// An item begins, where nothing is pending outside of every block.
+pub(crate) fn begin_item(pending: &mut Vec<Symbol>, word: Word, known: bool) -> Result<bool, AllocError>
+    requires { upward pending.old.items ≡ [] }
+    ensures { IfOk result (λ b. Begun known b word (upward pending.new.items)) }
+{
+    if is(word, Word::Key(Keyword::Typedef)) {
+        put(pending, &[Symbol::EndTypedef, Symbol::Declarator(Naming::Typedef), Symbol::Base])?;
+        Ok(true)
+    } else if is(word, Word::Key(Keyword::Static)) {
+        put(pending, &[Symbol::FileEntries, Symbol::Base])?;
+        Ok(true)
+    } else {
+        match base_symbol(word, known) {
+            Some(symbol) => {
+                put(pending, &[Symbol::FileEntries, symbol])?;
+                Ok(true)
+            }
+            None => Ok(false),
+        }
     }
 }

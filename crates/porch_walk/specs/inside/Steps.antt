@@ -4,7 +4,7 @@ use Rattle.porch_tree.specs.declared.word.Word.{Word}
 use Rattle.porch_walk.specs.declared.symbol.Symbol.{Symbol}
 use Rattle.porch_walk.specs.declared.step.Turn.{Turn}
 use Rattle.porch_walk.specs.declared.step.Turn.TheVariants as turn
-use Rattle.porch_walk.specs.Walk.{Stage, Heard, goes, names_type, behind}
+use Rattle.porch_walk.specs.Walk.{Stage, Heard, goes, names_type, item, behind}
 
 abbrev pub upward : List Symbol → List Symbol
 upward = fold (λ above s. s ∷ above) []
@@ -17,11 +17,6 @@ Given = List (List ℕ) → List ℕ → Bool → Option Stage
 abbrev pub TookAt : Bool → Option Stage → Option Stage → Type 0
 TookAt true o p = o ≡ p
 TookAt false o p = o ≡ None
-
--- a step that takes the word or leaves out what it could be
-abbrev pub LeftAt : Bool → Option Stage → Option Stage → Option Stage → Type 0
-LeftAt true o other p = o ≡ p
-LeftAt false o other p = o ≡ other
 
 abbrev pub Took : Given → Bool → List Symbol → Type 0
 Took o b ss = (types : List (List ℕ)) (fresh : List ℕ) (i : Bool) → TookAt b (o types fresh i) (goes types fresh i ss)
@@ -57,3 +52,15 @@ Turned known all t w old ss =
 abbrev pub Untouched : Turn → List Symbol → List Symbol → Type 0
 Untouched turn.LeftOut old ss = ss ≡ old
 Untouched t old ss = Unit {0}
+
+-- What is pending did with a word. Where all of it was left out, an item or the end of a block may come.
+abbrev pub Advanced : Bool → Turn → Word → List Symbol → List Symbol → Type 0
+Advanced known t w old ss =
+    (types : List (List ℕ)) (fresh : List ℕ) (i : Bool) (bs : List ℕ) → names_type types bs ≡ known
+    → TurnedAt t types fresh i bs (behind types fresh i old (heard_as w bs)) (behind types fresh i [] (heard_as w bs)) ss
+
+-- An item began with a word, or can't, outside of every block.
+abbrev pub Begun : Bool → Bool → Word → List Symbol → Type 0
+Begun known b w ss =
+    (types : List (List ℕ)) (fresh : List ℕ) (bs : List ℕ) → names_type types bs ≡ known
+    → TookAt b (behind types fresh false [] (heard_as w bs)) (goes types fresh false ss)
