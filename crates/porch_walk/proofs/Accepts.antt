@@ -121,7 +121,7 @@ module _ (types : List (List ℕ)) (i : Bool) where
 
   -- what is no cast, row, conditional, assignment or sequence
   of_unary : (e : Expr) → IsUnary e → IsCast e → IsAssign e → (IsPrimary e → (m : Mode) → ReadsExpr types e (takes_type m) → (f : List ℕ) (ss : List Symbol) (d : ℕ) (ps : List Piece) → Heads not_text ps
-        → on f (Operand m ∷ ss) (expr_pieces i e d ps) ≡ on f (Suffixes_to_come ∷ rest_of m ss) ps)
+      → on f (Operand m ∷ ss) (expr_pieces i e d ps) ≡ on f (Suffixes_to_come ∷ rest_of m ss) ps)
       → ((m : Mode) → ReadsExpr types e (takes_type m) → (f : List ℕ) (ss : List Symbol) (d : ℕ) (ps : List Piece) → Heads follows ps → on f (Operand m ∷ ss) (expr_pieces i e d ps) ≡ on f (rest_of m ss) ps) → Runs e
   of_unary e a c w p k = record {
     primary = p;
@@ -133,7 +133,7 @@ module _ (types : List (List ℕ)) (i : Bool) where
   }
 
   of_primary : (e : Expr) → IsUnary e → IsCast e → IsAssign e → ((m : Mode) → ReadsExpr types e (takes_type m) → (f : List ℕ) (ss : List Symbol) (d : ℕ) (ps : List Piece) → Heads not_text ps
-        → on f (Operand m ∷ ss) (expr_pieces i e d ps) ≡ on f (Suffixes_to_come ∷ rest_of m ss) ps) → Runs e
+      → on f (Operand m ∷ ss) (expr_pieces i e d ps) ≡ on f (Suffixes_to_come ∷ rest_of m ss) ps) → Runs e
   of_primary e a c w p = of_unary e a c w (λ h. p)
       (λ m r f ss d ps h. p m r f ss d ps (follows_no_text ps h) ∙ pass_suffixes types i f (rest_of m ss) ps h)
 

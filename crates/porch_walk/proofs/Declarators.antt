@@ -387,4 +387,3 @@ module _ (types : List (List ℕ)) (i : Bool) where
         (parameters_in (Brackets_to_come ∷ ss) o t ts p (is_not t t.word (word.Key key.Void) refl g)
         (base_of_taken types fresh i (Declarator_to_come naming.May ∷ MoreParameters ∷ Brackets_to_come ∷ ss) t.word false t ts (record { word = refl; inside = k }) (λ n e. absurd (never (sym e))) c)))
         (λ e. inner_declarator ss t ts k h)))
-

@@ -389,7 +389,7 @@ module _ (types : List (List ℕ)) (fresh : List ℕ) (i : Bool) where
       → Comes (nested_stage types fresh i m ss w) ts → AnOperand types i m (Means types fresh i ss) (o ∷ t ∷ ts)
   nested_taken m ss w o t ts p a n c =
       let e = an_expr (Must (word.Mark mark.CloseParenthesis) ∷ Suffixes_to_come ∷ rest_of m ss) (t ∷ ts)
-          (operand_taken mode.Assign (Commas ∷ Must (word.Mark mark.CloseParenthesis) ∷ Suffixes_to_come ∷ rest_of m ss) w t ts a c) in
+      (operand_taken mode.Assign (Commas ∷ Must (word.Mark mark.CloseParenthesis) ∷ Suffixes_to_come ∷ rest_of m ss) w t ts a c) in
       let k = e.next in
       wrapped m ss (o ∷ t ∷ ts)
       (a_primary (rest_of m ss) (takes_type m) (nested o.at (e.part)) (o ∷ t ∷ ts) (k.rest) tt e.good.1
@@ -408,7 +408,7 @@ module _ (types : List (List ℕ)) (fresh : List ℕ) (i : Bool) where
       → AnOperand types i m (Means types fresh i ss) (o ∷ ts)
   closed mode.Assign ss o ts rest p h y c =
       let r = c.next (cast o.at (y.part) (c.part)) (o ∷ ts) tt (y.formed, c.good.0, c.good.1) (y.reads, c.good.2)
-          (λ d ps k. ((p.word, refl, tt, p.inside), y.fits (suc d) _ (c.fits (suc d) ps k))) in
+      (λ d ps k. ((p.word, refl, tt, p.inside), y.fits (suc d) _ (c.fits (suc d) ps k))) in
       record { part = r.part; rest = r.rest; fits = r.fits; good = (cond_assign (r.part) r.good.0, r.good.1, r.good.2); next = r.next }
   closed mode.Cond ss o ts rest p h y c =
       c.next (cast o.at (y.part) (c.part)) (o ∷ ts) tt (y.formed, c.good.0, c.good.1) (y.reads, c.good.2)
@@ -499,7 +499,7 @@ module _ (types : List (List ℕ)) (fresh : List ℕ) (i : Bool) where
   infix_taken u ss o t ts a c = λ e us m g r f.
       let j = joined i types o (c.part) c.good.0 c.good.1 c.good.2 e g r (may_condition u e m) in
       let n = c.next (j.part) us (j.condition) (j.good) (j.reads)
-          (λ d ps h. subst (ArePieces us) (j.spelled d ps) (f d _ ((a.word, tt, tt, a.inside), c.fits d ps h))) in
+      (λ d ps h. subst (ArePieces us) (j.spelled d ps) (f d _ ((a.word, tt, tt, a.inside), c.fits d ps h))) in
       record { part = n.part; rest = n.rest; fits = n.fits; good = (condition_whole u (n.part) n.good.0, n.good.1, n.good.2); next = n.next }
 
   question_taken : (u : Bool) (ss : List Symbol) (t : Token) (ts : List Token) → IsA i t (word.Mark mark.Question)

@@ -19,9 +19,6 @@ use Rattle.porch_walk.specs.declared.symbol.Kinds.{Kinds}
 use Rattle.porch_walk.specs.declared.symbol.Symbol.{Symbol}
 use Rattle.porch_walk.specs.declared.symbol.Symbol.TheVariants.{Must, Operand, Open, Texts, Suffixes, Behind, Commas, Optional, Base, Kind, Consts, Tag, TagBody, Fields, MoreDeclarators, ConstantValue, Constants, Declarator, Pointer, Nameless, Brackets, Counts, Count, Parameters, Void, MoreParameters, Entries, Entry, MoreEntries, Initial, MoreInitials, NextInitial, FileEntries, FirstEntry, EndTypedef, Body, Statements, Statement, Else, Cases}
 use Rattle.porch_walk.specs.Walk.{Stage, step, start, run_from, run, ends_here, is_over, name_bytes, heard, Wrong, wrong_at, wrong_from, wrong, behind, or_else, ToldOf, Told, is, is_mark, goes, contents}
-
-
-
 use Rattle.porch_tree.specs.Mirror.{TranslationUnit}
 use Rattle.porch_tree.specs.Pieces.{unit_pieces}
 use Rattle.porch_tree.specs.Names.{ReadsNames}
@@ -112,10 +109,11 @@ within : (ts : List Spelled) (ps : List Piece) (s last : Stage) → run s ts ≡
 within [] [] s last e c h = tt
 within [] (p ∷ ps) s last e c h = absurd h
 within (t ∷ ts) [] s last e c h = absurd h
-within (t ∷ ts) (p ∷ ps) s last e c h =
-    (ap (λ ws. is_outside p.inside (p.word ∷ ws)) (sym (words_same ts ps (matched_on (step s t.word t.bytes) ts ps last e (λ n. matched ts ps n last) h.1)))
-    ∙ ap (λ w. is_outside p.inside (w ∷ map (λ q. q.word) ts)) (sym h.0.0) ∙ ap (λ b. is_outside b (t.word ∷ map (λ q. q.word) ts)) (sym h.0.3) ∙ c.0,
-    within_on (step s t.word t.bytes) ts ps last e (λ n. within ts ps n last) c.1 h.1)
+within (t ∷ ts) (p ∷ ps) s last e c h = (
+  ap (λ ws. is_outside p.inside (p.word ∷ ws)) (sym (words_same ts ps (matched_on (step s t.word t.bytes) ts ps last e (λ n. matched ts ps n last) h.1)))
+      ∙ ap (λ w. is_outside p.inside (w ∷ map (λ q. q.word) ts)) (sym h.0.0) ∙ ap (λ b. is_outside b (t.word ∷ map (λ q. q.word) ts)) (sym h.0.3) ∙ c.0,
+  within_on (step s t.word t.bytes) ts ps last e (λ n. within ts ps n last) c.1 h.1,
+)
 
 -- A run to a unit's end has read a unit, with the blocks that the walk was in.
 pub record Read (ts : List Spelled) : Type 0 where

@@ -17,8 +17,6 @@ use Rattle.porch_walk.specs.declared.symbol.Kinds.{Kinds}
 use Rattle.porch_walk.specs.declared.symbol.Symbol.{Symbol}
 use Rattle.porch_walk.specs.declared.symbol.Symbol.TheVariants.{Must, Operand, Open, Texts, Suffixes, Behind, Commas, Optional, Base, Kind, Consts, Tag, TagBody, Fields, MoreDeclarators, ConstantValue, Constants, Declarator, Pointer, Nameless, Brackets, Counts, Count, Parameters, Void, MoreParameters, Entries, Entry, MoreEntries, Initial, MoreInitials, NextInitial, FileEntries, FirstEntry, EndTypedef, Body, Statements, Statement, Else, Cases}
 use Rattle.porch_walk.specs.Walk.{Stage, step, start, run_from, run, ends_here, is_over, is, is_mark, is_key, Heard, heard, name_bytes, names_type, or_else, no_kinds, kinds_behind, kinds_of, rest_of, takes_type, behind_type, may_name, may_lack, brackets_of, opened, contents, condition, goes, kind as kind_stage, base_key, base_of, base, unary_mark, unary_key, unary, operand, nested, open_type, open_on, suffix_mark, suffix, is_infix, is_assigning, operators, named, lacking, core, declarator, parameters, more_parameters, more_entries, entry, initial, declaration, statement_key, statement_word, statement, item, behind}
-
-
 use Rattle.porch_walk.proofs.Passes.{Heads, closes, leaves, behind_base}
 use Rattle.porch_walk.proofs.Completes.{completion, Good, IsLast, brace, no_else, safe, brace_no_else, brace_closes, last_good}
 use Rattle.porch_walk.proofs.Expressions.{never}

@@ -535,10 +535,13 @@ module _ (types : List (List ℕ)) (fresh : List ℕ) where
       record {
         part = for_loop t.at (perhaps_of (x.part)) (perhaps_of (y.part)) (perhaps_of (z.part)) (s.part);
         rest = s.rest;
-        fits = λ d ps h. ((a.word, refl, tt, a.inside), o.fits _ _ (o.is_it.word, tt, tt, o.is_it.inside)
-            (perhaps_fits true (x.part) (suc d) _ (o.rest) (x.fits (suc (suc d)) _ (p.fits _ _ (p.is_it.word, tt, tt, p.is_it.inside)
-            (perhaps_fits true (y.part) (suc d) _ (p.rest) (y.fits (suc (suc d)) _ (q.fits _ _ (q.is_it.word, tt, tt, q.is_it.inside)
-            (perhaps_fits true (z.part) (suc d) _ (q.rest) (z.fits (suc (suc d)) _ (r.fits _ _ (r.is_it.word, tt, tt, r.is_it.inside) (s.fits (suc d) ps h)))))))))));
+        fits = λ d ps h. (
+          (a.word, refl, tt, a.inside),
+          o.fits _ _ (o.is_it.word, tt, tt, o.is_it.inside)
+              (perhaps_fits true (x.part) (suc d) _ (o.rest) (x.fits (suc (suc d)) _ (p.fits _ _ (p.is_it.word, tt, tt, p.is_it.inside)
+              (perhaps_fits true (y.part) (suc d) _ (p.rest) (y.fits (suc (suc d)) _ (q.fits _ _ (q.is_it.word, tt, tt, q.is_it.inside)
+              (perhaps_fits true (z.part) (suc d) _ (q.rest) (z.fits (suc (suc d)) _ (r.fits _ _ (r.is_it.word, tt, tt, r.is_it.inside) (s.fits (suc d) ps h)))))))))),
+        );
         good = ((perhaps_formed (x.part) x.good.0, perhaps_formed (y.part) y.good.0, perhaps_formed (z.part) z.good.0, s.good.0), (perhaps_names types (x.part) x.good.1, perhaps_names types (y.part) y.good.1, perhaps_names types (z.part) z.good.1, s.good.1));
         next = s.next;
       }

@@ -465,7 +465,7 @@ module _ (types : List (List ℕ)) (fresh : List ℕ) (inside : Bool) where
       if is_mark mark.CloseParenthesis t.word then goes (Brackets ∷ ss)
       else if is_key key.Void t.word then goes (Void ∷ Brackets ∷ ss)
       else or_else (base_of (Declarator naming.May ∷ MoreParameters ∷ Brackets ∷ ss) t.word false)
-          (declarator naming.May (Must (word.Mark mark.CloseParenthesis) ∷ Brackets ∷ ss) t None)
+      (declarator naming.May (Must (word.Mark mark.CloseParenthesis) ∷ Brackets ∷ ss) t None)
   behind (Brackets ∷ ss) t =
       if is_mark mark.OpenBracket t.word then goes (Count ∷ Brackets ∷ ss)
       else if is_mark mark.OpenParenthesis t.word then goes (Parameters ∷ Brackets ∷ ss) else behind ss t

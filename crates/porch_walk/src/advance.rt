@@ -11,7 +11,11 @@ use std::alloc::AllocError;
 /// What is pending does with one more word: the first symbol that isn't left out takes or refuses it.
 /// `LeftOut` says that nothing is pending any more, and that an item or the end of a block may come.
 /// `known` says whether the word is a name that is a typedef name.
-pub(crate) fn advance(pending: &mut Vec<Symbol>, word: Word, known: bool) -> Result<Turn, AllocError>
+pub(crate) fn advance(
+    pending: &mut Vec<Symbol>,
+    word: Word,
+    known: bool,
+) -> Result<Turn, AllocError>
     ensures { IfOk result (λ t. Advanced known t word (upward pending.old.items) (upward pending.new.items)) }
 {
     while let Some(symbol) = next(pending) {

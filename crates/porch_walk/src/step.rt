@@ -141,10 +141,24 @@ fn infix(word: Word) -> bool
     matches!(
         word,
         Word::Mark(
-            Mark::And | Mark::Star | Mark::Plus | Mark::Minus | Mark::Slash | Mark::Percent
-            | Mark::ShiftLeft | Mark::ShiftRight | Mark::Less | Mark::Greater | Mark::LessEqual
-            | Mark::GreaterEqual | Mark::EqualEqual | Mark::NotEqual | Mark::Caret | Mark::Or
-            | Mark::AndAnd | Mark::OrOr
+            Mark::And
+                | Mark::Star
+                | Mark::Plus
+                | Mark::Minus
+                | Mark::Slash
+                | Mark::Percent
+                | Mark::ShiftLeft
+                | Mark::ShiftRight
+                | Mark::Less
+                | Mark::Greater
+                | Mark::LessEqual
+                | Mark::GreaterEqual
+                | Mark::EqualEqual
+                | Mark::NotEqual
+                | Mark::Caret
+                | Mark::Or
+                | Mark::AndAnd
+                | Mark::OrOr
         )
     )
 }
@@ -155,9 +169,17 @@ fn assigning(word: Word) -> bool
     matches!(
         word,
         Word::Mark(
-            Mark::Equal | Mark::StarEqual | Mark::SlashEqual | Mark::PercentEqual | Mark::PlusEqual
-            | Mark::MinusEqual | Mark::ShiftLeftEqual | Mark::ShiftRightEqual | Mark::AndEqual
-            | Mark::CaretEqual | Mark::OrEqual
+            Mark::Equal
+                | Mark::StarEqual
+                | Mark::SlashEqual
+                | Mark::PercentEqual
+                | Mark::PlusEqual
+                | Mark::MinusEqual
+                | Mark::ShiftLeftEqual
+                | Mark::ShiftRightEqual
+                | Mark::AndEqual
+                | Mark::CaretEqual
+                | Mark::OrEqual
         )
     )
 }
@@ -193,7 +215,10 @@ fn put_behind_type(pending: &mut Vec<Symbol>, mode: Mode) -> Result<(), AllocErr
     ensures { IfOk result (λ _. upward pending.new.items ≡ behind_type mode (upward pending.old.items)) }
 {
     match mode {
-        Mode::Assign | Mode::Cond => put(pending, &[Symbol::Behind(false), Symbol::Operand(Mode::Cast)]),
+        Mode::Assign | Mode::Cond => put(
+            pending,
+            &[Symbol::Behind(false), Symbol::Operand(Mode::Cast)],
+        ),
         Mode::Cast | Mode::Unary => put(pending, &[Symbol::Operand(Mode::Cast)]),
         Mode::Size => Ok(()),
     }
@@ -214,16 +239,52 @@ fn kinds_with(seen: Kinds, word: Word) -> Option<Kinds>
     match word {
         Word::Key(Keyword::Const) => Some(seen),
         Word::Key(Keyword::Char) => {
-            if seen.char || seen.length || seen.int { None } else { Some(Kinds { char: true, length: seen.length, int: seen.int, sign: seen.sign }) }
+            if seen.char || seen.length || seen.int {
+                None
+            } else {
+                Some(Kinds {
+                    char: true,
+                    length: seen.length,
+                    int: seen.int,
+                    sign: seen.sign,
+                })
+            }
         }
         Word::Key(Keyword::Short | Keyword::Long) => {
-            if seen.char || seen.length { None } else { Some(Kinds { char: seen.char, length: true, int: seen.int, sign: seen.sign }) }
+            if seen.char || seen.length {
+                None
+            } else {
+                Some(Kinds {
+                    char: seen.char,
+                    length: true,
+                    int: seen.int,
+                    sign: seen.sign,
+                })
+            }
         }
         Word::Key(Keyword::Int) => {
-            if seen.char || seen.int { None } else { Some(Kinds { char: seen.char, length: seen.length, int: true, sign: seen.sign }) }
+            if seen.char || seen.int {
+                None
+            } else {
+                Some(Kinds {
+                    char: seen.char,
+                    length: seen.length,
+                    int: true,
+                    sign: seen.sign,
+                })
+            }
         }
         Word::Key(Keyword::Signed | Keyword::Unsigned) => {
-            if seen.sign { None } else { Some(Kinds { char: seen.char, length: seen.length, int: seen.int, sign: true }) }
+            if seen.sign {
+                None
+            } else {
+                Some(Kinds {
+                    char: seen.char,
+                    length: seen.length,
+                    int: seen.int,
+                    sign: true,
+                })
+            }
         }
         _ => None,
     }
@@ -235,26 +296,50 @@ pub(crate) fn base_symbol(word: Word, known: bool) -> Option<Symbol>
         → base_of types fresh i ss word known ≡ pushed types fresh i ss result }
 {
     match word {
-        Word::Name => {
-            if known { Some(Symbol::Consts) } else { None }
-        }
+        Word::Name => { if known { Some(Symbol::Consts) } else { None } }
         Word::Key(Keyword::Const) => Some(Symbol::Base),
         Word::Key(Keyword::Void) => Some(Symbol::Consts),
         Word::Key(Keyword::Struct) => Some(Symbol::Tag(TagSort::Struct)),
         Word::Key(Keyword::Enum) => Some(Symbol::Tag(TagSort::Enum)),
-        Word::Key(Keyword::Char) => Some(Symbol::Kind(Kinds { char: true, length: false, int: false, sign: false })),
-        Word::Key(Keyword::Short | Keyword::Long) => Some(Symbol::Kind(Kinds { char: false, length: true, int: false, sign: false })),
-        Word::Key(Keyword::Int) => Some(Symbol::Kind(Kinds { char: false, length: false, int: true, sign: false })),
-        Word::Key(Keyword::Signed | Keyword::Unsigned) => Some(Symbol::Kind(Kinds { char: false, length: false, int: false, sign: true })),
+        Word::Key(Keyword::Char) => Some(Symbol::Kind(Kinds {
+            char: true,
+            length: false,
+            int: false,
+            sign: false,
+        })),
+        Word::Key(Keyword::Short | Keyword::Long) => Some(Symbol::Kind(Kinds {
+            char: false,
+            length: true,
+            int: false,
+            sign: false,
+        })),
+        Word::Key(Keyword::Int) => Some(Symbol::Kind(Kinds {
+            char: false,
+            length: false,
+            int: true,
+            sign: false,
+        })),
+        Word::Key(Keyword::Signed | Keyword::Unsigned) => Some(Symbol::Kind(Kinds {
+            char: false,
+            length: false,
+            int: false,
+            sign: true,
+        })),
         _ => None,
     }
 }
 
 /// An operand in front of these symbols.
-fn begin_operand(pending: &mut Vec<Symbol>, under: &[Symbol], below: &[Symbol], mode: Mode, word: Word) -> Result<bool, AllocError>
+fn begin_operand(
+    pending: &mut Vec<Symbol>,
+    under: &[Symbol],
+    below: &[Symbol],
+    mode: Mode,
+    word: Word,
+) -> Result<bool, AllocError>
     ensures took { IfOk result (λ b. Took
         (λ ts f i. operand ts f i mode
-            (upward below.now ++ (upward under.now ++ upward pending.old.items)) word)
+        (upward below.now ++ (upward under.now ++ upward pending.old.items)) word)
         b (upward pending.new.items)) }
     ensures same { IfOk result (λ b. Same b (upward pending.old.items) (upward pending.new.items)) }
 {
@@ -304,7 +389,12 @@ fn begin_operand(pending: &mut Vec<Symbol>, under: &[Symbol], below: &[Symbol], 
     }
 }
 
-fn must_turn(pending: &mut Vec<Symbol>, wanted: Word, word: Word, known: bool) -> Result<Turn, AllocError>
+fn must_turn(
+    pending: &mut Vec<Symbol>,
+    wanted: Word,
+    word: Word,
+    known: bool,
+) -> Result<Turn, AllocError>
     ensures turned { IfOk result (λ t. Turned known (sym.Must wanted ∷ upward pending.old.items) t word
         (upward pending.old.items) (upward pending.new.items)) }
     ensures untouched { IfOk result (λ t. Untouched t (upward pending.old.items) (upward pending.new.items)) }
@@ -336,11 +426,26 @@ fn suffixes_turn(pending: &mut Vec<Symbol>, word: Word, known: bool) -> Result<T
 {
     match word {
         Word::Mark(Mark::OpenBracket) => {
-            put(pending, &[Symbol::Suffixes, Symbol::Must(Word::Mark(Mark::CloseBracket)), Symbol::Commas, Symbol::Operand(Mode::Assign)])?;
+            put(
+                pending,
+                &[
+                    Symbol::Suffixes,
+                    Symbol::Must(Word::Mark(Mark::CloseBracket)),
+                    Symbol::Commas,
+                    Symbol::Operand(Mode::Assign),
+                ],
+            )?;
             Ok(Turn::Took)
         }
         Word::Mark(Mark::OpenParenthesis) => {
-            put(pending, &[Symbol::Suffixes, Symbol::Must(Word::Mark(Mark::CloseParenthesis)), Symbol::Optional])?;
+            put(
+                pending,
+                &[
+                    Symbol::Suffixes,
+                    Symbol::Must(Word::Mark(Mark::CloseParenthesis)),
+                    Symbol::Optional,
+                ],
+            )?;
             Ok(Turn::Took)
         }
         Word::Mark(Mark::Dot | Mark::Arrow) => {
@@ -361,16 +466,32 @@ fn assigns(unary: bool, word: Word) -> bool
     if unary { assigning(word) } else { false }
 }
 
-fn behind_turn(pending: &mut Vec<Symbol>, unary: bool, word: Word, known: bool) -> Result<Turn, AllocError>
+fn behind_turn(
+    pending: &mut Vec<Symbol>,
+    unary: bool,
+    word: Word,
+    known: bool,
+) -> Result<Turn, AllocError>
     ensures turned { IfOk result (λ t. Turned known (sym.Behind unary ∷ upward pending.old.items) t word
         (upward pending.old.items) (upward pending.new.items)) }
     ensures untouched { IfOk result (λ t. Untouched t (upward pending.old.items) (upward pending.new.items)) }
 {
     if infix(word) {
-        put(pending, &[Symbol::Behind(false), Symbol::Operand(Mode::Cast)])?;
+        put(
+            pending,
+            &[Symbol::Behind(false), Symbol::Operand(Mode::Cast)],
+        )?;
         Ok(Turn::Took)
     } else if is(word, Word::Mark(Mark::Question)) {
-        put(pending, &[Symbol::Operand(Mode::Cond), Symbol::Must(Word::Mark(Mark::Colon)), Symbol::Commas, Symbol::Operand(Mode::Assign)])?;
+        put(
+            pending,
+            &[
+                Symbol::Operand(Mode::Cond),
+                Symbol::Must(Word::Mark(Mark::Colon)),
+                Symbol::Commas,
+                Symbol::Operand(Mode::Assign),
+            ],
+        )?;
         Ok(Turn::Took)
     } else if assigns(unary, word) {
         put(pending, &[Symbol::Operand(Mode::Assign)])?;
@@ -393,7 +514,12 @@ fn commas_turn(pending: &mut Vec<Symbol>, word: Word, known: bool) -> Result<Tur
     }
 }
 
-fn operand_turn(pending: &mut Vec<Symbol>, mode: Mode, word: Word, known: bool) -> Result<Turn, AllocError>
+fn operand_turn(
+    pending: &mut Vec<Symbol>,
+    mode: Mode,
+    word: Word,
+    known: bool,
+) -> Result<Turn, AllocError>
     ensures turned { IfOk result (λ t. Turned known (sym.Operand mode ∷ upward pending.old.items) t word
         (upward pending.old.items) (upward pending.new.items)) }
     ensures untouched { IfOk result (λ t. Untouched t (upward pending.old.items) (upward pending.new.items)) }
@@ -426,13 +552,22 @@ fn begin_nested(pending: &mut Vec<Symbol>, mode: Mode, word: Word) -> Result<boo
     begin_operand(
         pending,
         &[],
-        &[Symbol::Suffixes, Symbol::Must(Word::Mark(Mark::CloseParenthesis)), Symbol::Commas],
+        &[
+            Symbol::Suffixes,
+            Symbol::Must(Word::Mark(Mark::CloseParenthesis)),
+            Symbol::Commas,
+        ],
         Mode::Assign,
         word,
     )
 }
 
-fn open_turn(pending: &mut Vec<Symbol>, mode: Mode, word: Word, known: bool) -> Result<Turn, AllocError>
+fn open_turn(
+    pending: &mut Vec<Symbol>,
+    mode: Mode,
+    word: Word,
+    known: bool,
+) -> Result<Turn, AllocError>
     ensures turned { IfOk result (λ t. Turned known (sym.Open mode ∷ upward pending.old.items) t word
         (upward pending.old.items) (upward pending.new.items)) }
     ensures untouched { IfOk result (λ t. Untouched t (upward pending.old.items) (upward pending.new.items)) }
@@ -441,11 +576,22 @@ fn open_turn(pending: &mut Vec<Symbol>, mode: Mode, word: Word, known: bool) -> 
         match base_symbol(word, known) {
             Some(symbol) => {
                 put_behind_type(pending, mode)?;
-                put(pending, &[Symbol::Must(Word::Mark(Mark::CloseParenthesis)), Symbol::Declarator(Naming::Abstract), symbol])?;
+                put(
+                    pending,
+                    &[
+                        Symbol::Must(Word::Mark(Mark::CloseParenthesis)),
+                        Symbol::Declarator(Naming::Abstract),
+                        symbol,
+                    ],
+                )?;
                 Ok(Turn::Took)
             }
             None => {
-                if begin_nested(pending, mode, word)? { Ok(Turn::Took) } else { Ok(Turn::Refused) }
+                if begin_nested(pending, mode, word)? {
+                    Ok(Turn::Took)
+                } else {
+                    Ok(Turn::Refused)
+                }
             }
         }
     } else if begin_nested(pending, mode, word)? {
@@ -469,7 +615,12 @@ fn base_turn(pending: &mut Vec<Symbol>, word: Word, known: bool) -> Result<Turn,
     }
 }
 
-fn kind_turn(pending: &mut Vec<Symbol>, seen: Kinds, word: Word, known: bool) -> Result<Turn, AllocError>
+fn kind_turn(
+    pending: &mut Vec<Symbol>,
+    seen: Kinds,
+    word: Word,
+    known: bool,
+) -> Result<Turn, AllocError>
     ensures turned { IfOk result (λ t. Turned known (sym.Kind seen ∷ upward pending.old.items) t word
         (upward pending.old.items) (upward pending.new.items)) }
     ensures untouched { IfOk result (λ t. Untouched t (upward pending.old.items) (upward pending.new.items)) }
@@ -502,16 +653,32 @@ fn put_contents(pending: &mut Vec<Symbol>, sort: TagSort) -> Result<(), AllocErr
     match sort {
         TagSort::Struct => put(
             pending,
-            &[Symbol::Consts, Symbol::Fields, Symbol::MoreDeclarators, Symbol::Declarator(Naming::Must), Symbol::Base],
+            &[
+                Symbol::Consts,
+                Symbol::Fields,
+                Symbol::MoreDeclarators,
+                Symbol::Declarator(Naming::Must),
+                Symbol::Base,
+            ],
         ),
         TagSort::Enum => put(
             pending,
-            &[Symbol::Consts, Symbol::Constants, Symbol::ConstantValue, Symbol::Must(Word::Name)],
+            &[
+                Symbol::Consts,
+                Symbol::Constants,
+                Symbol::ConstantValue,
+                Symbol::Must(Word::Name),
+            ],
         ),
     }
 }
 
-fn tag_turn(pending: &mut Vec<Symbol>, sort: TagSort, word: Word, known: bool) -> Result<Turn, AllocError>
+fn tag_turn(
+    pending: &mut Vec<Symbol>,
+    sort: TagSort,
+    word: Word,
+    known: bool,
+) -> Result<Turn, AllocError>
     ensures turned { IfOk result (λ t. Turned known (sym.Tag sort ∷ upward pending.old.items) t word
         (upward pending.old.items) (upward pending.new.items)) }
     ensures untouched { IfOk result (λ t. Untouched t (upward pending.old.items) (upward pending.new.items)) }
@@ -527,7 +694,12 @@ fn tag_turn(pending: &mut Vec<Symbol>, sort: TagSort, word: Word, known: bool) -
     }
 }
 
-fn tag_body_turn(pending: &mut Vec<Symbol>, sort: TagSort, word: Word, known: bool) -> Result<Turn, AllocError>
+fn tag_body_turn(
+    pending: &mut Vec<Symbol>,
+    sort: TagSort,
+    word: Word,
+    known: bool,
+) -> Result<Turn, AllocError>
     ensures turned { IfOk result (λ t. Turned known (sym.TagBody sort ∷ upward pending.old.items) t word
         (upward pending.old.items) (upward pending.new.items)) }
     ensures untouched { IfOk result (λ t. Untouched t (upward pending.old.items) (upward pending.new.items)) }
@@ -553,7 +725,15 @@ fn fields_turn(pending: &mut Vec<Symbol>, word: Word, known: bool) -> Result<Tur
     } else {
         match base_symbol(word, known) {
             Some(symbol) => {
-                put(pending, &[Symbol::Fields, Symbol::MoreDeclarators, Symbol::Declarator(Naming::Must), symbol])?;
+                put(
+                    pending,
+                    &[
+                        Symbol::Fields,
+                        Symbol::MoreDeclarators,
+                        Symbol::Declarator(Naming::Must),
+                        symbol,
+                    ],
+                )?;
                 Ok(Turn::Took)
             }
             None => Ok(Turn::Refused),
@@ -561,13 +741,20 @@ fn fields_turn(pending: &mut Vec<Symbol>, word: Word, known: bool) -> Result<Tur
     }
 }
 
-fn more_declarators_turn(pending: &mut Vec<Symbol>, word: Word, known: bool) -> Result<Turn, AllocError>
+fn more_declarators_turn(
+    pending: &mut Vec<Symbol>,
+    word: Word,
+    known: bool,
+) -> Result<Turn, AllocError>
     ensures turned { IfOk result (λ t. Turned known (sym.MoreDeclarators ∷ upward pending.old.items) t word
         (upward pending.old.items) (upward pending.new.items)) }
     ensures untouched { IfOk result (λ t. Untouched t (upward pending.old.items) (upward pending.new.items)) }
 {
     if is(word, Word::Mark(Mark::Comma)) {
-        put(pending, &[Symbol::MoreDeclarators, Symbol::Declarator(Naming::Must)])?;
+        put(
+            pending,
+            &[Symbol::MoreDeclarators, Symbol::Declarator(Naming::Must)],
+        )?;
         Ok(Turn::Took)
     } else if is(word, Word::Mark(Mark::Semicolon)) {
         Ok(Turn::Took)
@@ -576,7 +763,11 @@ fn more_declarators_turn(pending: &mut Vec<Symbol>, word: Word, known: bool) -> 
     }
 }
 
-fn constant_value_turn(pending: &mut Vec<Symbol>, word: Word, known: bool) -> Result<Turn, AllocError>
+fn constant_value_turn(
+    pending: &mut Vec<Symbol>,
+    word: Word,
+    known: bool,
+) -> Result<Turn, AllocError>
     ensures turned { IfOk result (λ t. Turned known (sym.ConstantValue ∷ upward pending.old.items) t word
         (upward pending.old.items) (upward pending.new.items)) }
     ensures untouched { IfOk result (λ t. Untouched t (upward pending.old.items) (upward pending.new.items)) }
@@ -595,7 +786,14 @@ fn constants_turn(pending: &mut Vec<Symbol>, word: Word, known: bool) -> Result<
     ensures untouched { IfOk result (λ t. Untouched t (upward pending.old.items) (upward pending.new.items)) }
 {
     if is(word, Word::Mark(Mark::Comma)) {
-        put(pending, &[Symbol::Constants, Symbol::ConstantValue, Symbol::Must(Word::Name)])?;
+        put(
+            pending,
+            &[
+                Symbol::Constants,
+                Symbol::ConstantValue,
+                Symbol::Must(Word::Name),
+            ],
+        )?;
         Ok(Turn::Took)
     } else if is(word, Word::Mark(Mark::CloseBrace)) {
         Ok(Turn::Took)
@@ -640,20 +838,37 @@ fn count_turn(pending: &mut Vec<Symbol>, word: Word, known: bool) -> Result<Turn
 {
     if is(word, Word::Mark(Mark::CloseBracket)) {
         Ok(Turn::Took)
-    } else if begin_operand(pending, &[], &[Symbol::Must(Word::Mark(Mark::CloseBracket))], Mode::Cond, word)? {
+    } else if begin_operand(
+        pending,
+        &[],
+        &[Symbol::Must(Word::Mark(Mark::CloseBracket))],
+        Mode::Cond,
+        word,
+    )? {
         Ok(Turn::Took)
     } else {
         Ok(Turn::Refused)
     }
 }
 
-fn more_parameters_turn(pending: &mut Vec<Symbol>, word: Word, known: bool) -> Result<Turn, AllocError>
+fn more_parameters_turn(
+    pending: &mut Vec<Symbol>,
+    word: Word,
+    known: bool,
+) -> Result<Turn, AllocError>
     ensures turned { IfOk result (λ t. Turned known (sym.MoreParameters ∷ upward pending.old.items) t word
         (upward pending.old.items) (upward pending.new.items)) }
     ensures untouched { IfOk result (λ t. Untouched t (upward pending.old.items) (upward pending.new.items)) }
 {
     if is(word, Word::Mark(Mark::Comma)) {
-        put(pending, &[Symbol::MoreParameters, Symbol::Declarator(Naming::May), Symbol::Base])?;
+        put(
+            pending,
+            &[
+                Symbol::MoreParameters,
+                Symbol::Declarator(Naming::May),
+                Symbol::Base,
+            ],
+        )?;
         Ok(Turn::Took)
     } else if is(word, Word::Mark(Mark::CloseParenthesis)) {
         Ok(Turn::Took)
@@ -705,7 +920,11 @@ fn initial_turn(pending: &mut Vec<Symbol>, word: Word, known: bool) -> Result<Tu
     }
 }
 
-fn more_initials_turn(pending: &mut Vec<Symbol>, word: Word, known: bool) -> Result<Turn, AllocError>
+fn more_initials_turn(
+    pending: &mut Vec<Symbol>,
+    word: Word,
+    known: bool,
+) -> Result<Turn, AllocError>
     ensures turned { IfOk result (λ t. Turned known (sym.MoreInitials ∷ upward pending.old.items) t word
         (upward pending.old.items) (upward pending.new.items)) }
     ensures untouched { IfOk result (λ t. Untouched t (upward pending.old.items) (upward pending.new.items)) }
@@ -728,7 +947,10 @@ fn next_initial_turn(pending: &mut Vec<Symbol>, word: Word, known: bool) -> Resu
     if is(word, Word::Mark(Mark::CloseBrace)) {
         Ok(Turn::Took)
     } else if is(word, Word::Mark(Mark::OpenBrace)) {
-        put(pending, &[Symbol::MoreInitials, Symbol::MoreInitials, Symbol::Initial])?;
+        put(
+            pending,
+            &[Symbol::MoreInitials, Symbol::MoreInitials, Symbol::Initial],
+        )?;
         Ok(Turn::Took)
     } else if begin_operand(pending, &[], &[Symbol::MoreInitials], Mode::Assign, word)? {
         Ok(Turn::Took)
@@ -787,7 +1009,14 @@ fn named_turn(pending: &mut Vec<Symbol>, word: Word, known: bool) -> Result<Turn
         put(pending, &[Symbol::Brackets])?;
         Ok(Turn::Took)
     } else if is(word, Word::Mark(Mark::OpenParenthesis)) {
-        put(pending, &[Symbol::Brackets, Symbol::Must(Word::Mark(Mark::CloseParenthesis)), Symbol::Declarator(Naming::Must)])?;
+        put(
+            pending,
+            &[
+                Symbol::Brackets,
+                Symbol::Must(Word::Mark(Mark::CloseParenthesis)),
+                Symbol::Declarator(Naming::Must),
+            ],
+        )?;
         Ok(Turn::Took)
     } else {
         Ok(Turn::Refused)
@@ -806,7 +1035,14 @@ fn typedef_turn(pending: &mut Vec<Symbol>, word: Word, known: bool) -> Result<Tu
         put(pending, &[Symbol::Brackets])?;
         Ok(Turn::Named)
     } else if is(word, Word::Mark(Mark::OpenParenthesis)) {
-        put(pending, &[Symbol::Brackets, Symbol::Must(Word::Mark(Mark::CloseParenthesis)), Symbol::Declarator(Naming::Typedef)])?;
+        put(
+            pending,
+            &[
+                Symbol::Brackets,
+                Symbol::Must(Word::Mark(Mark::CloseParenthesis)),
+                Symbol::Declarator(Naming::Typedef),
+            ],
+        )?;
         Ok(Turn::Took)
     } else {
         Ok(Turn::Refused)
@@ -851,7 +1087,12 @@ fn abstract_turn(pending: &mut Vec<Symbol>, word: Word, known: bool) -> Result<T
     }
 }
 
-fn declarator_turn(pending: &mut Vec<Symbol>, naming: Naming, word: Word, known: bool) -> Result<Turn, AllocError>
+fn declarator_turn(
+    pending: &mut Vec<Symbol>,
+    naming: Naming,
+    word: Word,
+    known: bool,
+) -> Result<Turn, AllocError>
     ensures turned { IfOk result (λ t. Turned known (sym.Declarator naming ∷ upward pending.old.items) t word
         (upward pending.old.items) (upward pending.new.items)) }
     ensures untouched { IfOk result (λ t. Untouched t (upward pending.old.items) (upward pending.new.items)) }
@@ -864,7 +1105,12 @@ fn declarator_turn(pending: &mut Vec<Symbol>, naming: Naming, word: Word, known:
     }
 }
 
-fn pointer_turn(pending: &mut Vec<Symbol>, naming: Naming, word: Word, known: bool) -> Result<Turn, AllocError>
+fn pointer_turn(
+    pending: &mut Vec<Symbol>,
+    naming: Naming,
+    word: Word,
+    known: bool,
+) -> Result<Turn, AllocError>
     ensures turned { IfOk result (λ t. Turned known (sym.Pointer naming ∷ upward pending.old.items) t word
         (upward pending.old.items) (upward pending.new.items)) }
     ensures untouched { IfOk result (λ t. Untouched t (upward pending.old.items) (upward pending.new.items)) }
@@ -891,25 +1137,62 @@ fn nameless_turn(pending: &mut Vec<Symbol>, word: Word, known: bool) -> Result<T
     } else {
         match base_symbol(word, false) {
             Some(symbol) => {
-                put(pending, &[Symbol::Brackets, Symbol::MoreParameters, Symbol::Declarator(Naming::May), symbol])?;
+                put(
+                    pending,
+                    &[
+                        Symbol::Brackets,
+                        Symbol::MoreParameters,
+                        Symbol::Declarator(Naming::May),
+                        symbol,
+                    ],
+                )?;
                 Ok(Turn::Took)
             }
             None => {
                 if is(word, Word::Mark(Mark::Star)) {
-        put(pending, &[Symbol::Brackets, Symbol::Must(Word::Mark(Mark::CloseParenthesis)), Symbol::Pointer(Naming::May)])?;
-        Ok(Turn::Took)
-    } else if is(word, Word::Name) {
-        put(pending, &[Symbol::Brackets, Symbol::Must(Word::Mark(Mark::CloseParenthesis)), Symbol::Brackets])?;
-        Ok(Turn::Took)
-    } else if is(word, Word::Mark(Mark::OpenParenthesis)) {
-        put(pending, &[Symbol::Brackets, Symbol::Must(Word::Mark(Mark::CloseParenthesis)), Symbol::Nameless])?;
-        Ok(Turn::Took)
-    } else if is(word, Word::Mark(Mark::OpenBracket)) {
-        put(pending, &[Symbol::Brackets, Symbol::Must(Word::Mark(Mark::CloseParenthesis)), Symbol::Brackets, Symbol::Count])?;
-        Ok(Turn::Took)
-    } else {
-        Ok(Turn::Refused)
-    }
+                    put(
+                        pending,
+                        &[
+                            Symbol::Brackets,
+                            Symbol::Must(Word::Mark(Mark::CloseParenthesis)),
+                            Symbol::Pointer(Naming::May),
+                        ],
+                    )?;
+                    Ok(Turn::Took)
+                } else if is(word, Word::Name) {
+                    put(
+                        pending,
+                        &[
+                            Symbol::Brackets,
+                            Symbol::Must(Word::Mark(Mark::CloseParenthesis)),
+                            Symbol::Brackets,
+                        ],
+                    )?;
+                    Ok(Turn::Took)
+                } else if is(word, Word::Mark(Mark::OpenParenthesis)) {
+                    put(
+                        pending,
+                        &[
+                            Symbol::Brackets,
+                            Symbol::Must(Word::Mark(Mark::CloseParenthesis)),
+                            Symbol::Nameless,
+                        ],
+                    )?;
+                    Ok(Turn::Took)
+                } else if is(word, Word::Mark(Mark::OpenBracket)) {
+                    put(
+                        pending,
+                        &[
+                            Symbol::Brackets,
+                            Symbol::Must(Word::Mark(Mark::CloseParenthesis)),
+                            Symbol::Brackets,
+                            Symbol::Count,
+                        ],
+                    )?;
+                    Ok(Turn::Took)
+                } else {
+                    Ok(Turn::Refused)
+                }
             }
         }
     }
@@ -928,7 +1211,14 @@ fn parameters_turn(pending: &mut Vec<Symbol>, word: Word, known: bool) -> Result
     } else {
         match base_symbol(word, known) {
             Some(symbol) => {
-                put(pending, &[Symbol::MoreParameters, Symbol::Declarator(Naming::May), symbol])?;
+                put(
+                    pending,
+                    &[
+                        Symbol::MoreParameters,
+                        Symbol::Declarator(Naming::May),
+                        symbol,
+                    ],
+                )?;
                 Ok(Turn::Took)
             }
             None => Ok(Turn::Refused),
@@ -944,10 +1234,20 @@ fn void_turn(pending: &mut Vec<Symbol>, word: Word, known: bool) -> Result<Turn,
     if is(word, Word::Mark(Mark::CloseParenthesis)) {
         Ok(Turn::Took)
     } else if is(word, Word::Key(Keyword::Const)) {
-        put(pending, &[Symbol::MoreParameters, Symbol::Declarator(Naming::May), Symbol::Consts])?;
+        put(
+            pending,
+            &[
+                Symbol::MoreParameters,
+                Symbol::Declarator(Naming::May),
+                Symbol::Consts,
+            ],
+        )?;
         Ok(Turn::Took)
     } else if is(word, Word::Mark(Mark::Star)) {
-        put(pending, &[Symbol::MoreParameters, Symbol::Pointer(Naming::May)])?;
+        put(
+            pending,
+            &[Symbol::MoreParameters, Symbol::Pointer(Naming::May)],
+        )?;
         Ok(Turn::Took)
     } else if is(word, Word::Name) {
         put(pending, &[Symbol::MoreParameters, Symbol::Brackets])?;
@@ -956,7 +1256,10 @@ fn void_turn(pending: &mut Vec<Symbol>, word: Word, known: bool) -> Result<Turn,
         put(pending, &[Symbol::MoreParameters, Symbol::Nameless])?;
         Ok(Turn::Took)
     } else if is(word, Word::Mark(Mark::OpenBracket)) {
-        put(pending, &[Symbol::MoreParameters, Symbol::Brackets, Symbol::Count])?;
+        put(
+            pending,
+            &[Symbol::MoreParameters, Symbol::Brackets, Symbol::Count],
+        )?;
         Ok(Turn::Took)
     } else {
         more_parameters_turn(pending, word, known)
@@ -977,7 +1280,15 @@ fn entries_turn(pending: &mut Vec<Symbol>, word: Word, known: bool) -> Result<Tu
         put(pending, &[Symbol::Entry, Symbol::Brackets])?;
         Ok(Turn::Took)
     } else if is(word, Word::Mark(Mark::OpenParenthesis)) {
-        put(pending, &[Symbol::Entry, Symbol::Brackets, Symbol::Must(Word::Mark(Mark::CloseParenthesis)), Symbol::Declarator(Naming::Must)])?;
+        put(
+            pending,
+            &[
+                Symbol::Entry,
+                Symbol::Brackets,
+                Symbol::Must(Word::Mark(Mark::CloseParenthesis)),
+                Symbol::Declarator(Naming::Must),
+            ],
+        )?;
         Ok(Turn::Took)
     } else {
         Ok(Turn::Refused)
@@ -992,13 +1303,24 @@ fn file_entries_turn(pending: &mut Vec<Symbol>, word: Word, known: bool) -> Resu
     if is(word, Word::Mark(Mark::Semicolon)) {
         Ok(Turn::Took)
     } else if is(word, Word::Mark(Mark::Star)) {
-        put(pending, &[Symbol::FirstEntry, Symbol::Pointer(Naming::Must)])?;
+        put(
+            pending,
+            &[Symbol::FirstEntry, Symbol::Pointer(Naming::Must)],
+        )?;
         Ok(Turn::Took)
     } else if is(word, Word::Name) {
         put(pending, &[Symbol::FirstEntry, Symbol::Brackets])?;
         Ok(Turn::Took)
     } else if is(word, Word::Mark(Mark::OpenParenthesis)) {
-        put(pending, &[Symbol::FirstEntry, Symbol::Brackets, Symbol::Must(Word::Mark(Mark::CloseParenthesis)), Symbol::Declarator(Naming::Must)])?;
+        put(
+            pending,
+            &[
+                Symbol::FirstEntry,
+                Symbol::Brackets,
+                Symbol::Must(Word::Mark(Mark::CloseParenthesis)),
+                Symbol::Declarator(Naming::Must),
+            ],
+        )?;
         Ok(Turn::Took)
     } else {
         Ok(Turn::Refused)
@@ -1006,7 +1328,11 @@ fn file_entries_turn(pending: &mut Vec<Symbol>, word: Word, known: bool) -> Resu
 }
 
 /// A statement in front of these symbols.
-fn begin_statement(pending: &mut Vec<Symbol>, below: &[Symbol], word: Word) -> Result<bool, AllocError>
+fn begin_statement(
+    pending: &mut Vec<Symbol>,
+    below: &[Symbol],
+    word: Word,
+) -> Result<bool, AllocError>
     ensures took { IfOk result (λ b. Took
         (λ ts f i. statement ts f i (upward below.now ++ upward pending.old.items) word)
         b (upward pending.new.items)) }
@@ -1015,27 +1341,80 @@ fn begin_statement(pending: &mut Vec<Symbol>, below: &[Symbol], word: Word) -> R
     match word {
         Word::Key(Keyword::If) => {
             put(pending, below)?;
-            put(pending, &[Symbol::Else, Symbol::Statement, Symbol::Must(Word::Mark(Mark::CloseParenthesis)), Symbol::Commas, Symbol::Operand(Mode::Assign), Symbol::Must(Word::Mark(Mark::OpenParenthesis))])?;
+            put(
+                pending,
+                &[
+                    Symbol::Else,
+                    Symbol::Statement,
+                    Symbol::Must(Word::Mark(Mark::CloseParenthesis)),
+                    Symbol::Commas,
+                    Symbol::Operand(Mode::Assign),
+                    Symbol::Must(Word::Mark(Mark::OpenParenthesis)),
+                ],
+            )?;
             Ok(true)
         }
         Word::Key(Keyword::While) => {
             put(pending, below)?;
-            put(pending, &[Symbol::Statement, Symbol::Must(Word::Mark(Mark::CloseParenthesis)), Symbol::Commas, Symbol::Operand(Mode::Assign), Symbol::Must(Word::Mark(Mark::OpenParenthesis))])?;
+            put(
+                pending,
+                &[
+                    Symbol::Statement,
+                    Symbol::Must(Word::Mark(Mark::CloseParenthesis)),
+                    Symbol::Commas,
+                    Symbol::Operand(Mode::Assign),
+                    Symbol::Must(Word::Mark(Mark::OpenParenthesis)),
+                ],
+            )?;
             Ok(true)
         }
         Word::Key(Keyword::Do) => {
             put(pending, below)?;
-            put(pending, &[Symbol::Must(Word::Mark(Mark::Semicolon)), Symbol::Must(Word::Mark(Mark::CloseParenthesis)), Symbol::Commas, Symbol::Operand(Mode::Assign), Symbol::Must(Word::Mark(Mark::OpenParenthesis)), Symbol::Must(Word::Key(Keyword::While)), Symbol::Statement])?;
+            put(
+                pending,
+                &[
+                    Symbol::Must(Word::Mark(Mark::Semicolon)),
+                    Symbol::Must(Word::Mark(Mark::CloseParenthesis)),
+                    Symbol::Commas,
+                    Symbol::Operand(Mode::Assign),
+                    Symbol::Must(Word::Mark(Mark::OpenParenthesis)),
+                    Symbol::Must(Word::Key(Keyword::While)),
+                    Symbol::Statement,
+                ],
+            )?;
             Ok(true)
         }
         Word::Key(Keyword::For) => {
             put(pending, below)?;
-            put(pending, &[Symbol::Statement, Symbol::Must(Word::Mark(Mark::CloseParenthesis)), Symbol::Optional, Symbol::Must(Word::Mark(Mark::Semicolon)), Symbol::Optional, Symbol::Must(Word::Mark(Mark::Semicolon)), Symbol::Optional, Symbol::Must(Word::Mark(Mark::OpenParenthesis))])?;
+            put(
+                pending,
+                &[
+                    Symbol::Statement,
+                    Symbol::Must(Word::Mark(Mark::CloseParenthesis)),
+                    Symbol::Optional,
+                    Symbol::Must(Word::Mark(Mark::Semicolon)),
+                    Symbol::Optional,
+                    Symbol::Must(Word::Mark(Mark::Semicolon)),
+                    Symbol::Optional,
+                    Symbol::Must(Word::Mark(Mark::OpenParenthesis)),
+                ],
+            )?;
             Ok(true)
         }
         Word::Key(Keyword::Switch) => {
             put(pending, below)?;
-            put(pending, &[Symbol::Must(Word::Mark(Mark::CloseBrace)), Symbol::Cases, Symbol::Must(Word::Mark(Mark::OpenBrace)), Symbol::Must(Word::Mark(Mark::CloseParenthesis)), Symbol::Commas, Symbol::Operand(Mode::Assign), Symbol::Must(Word::Mark(Mark::OpenParenthesis))])?;
+            put(
+                pending,
+                &[
+                    Symbol::Must(Word::Mark(Mark::CloseBrace)),
+                    Symbol::Cases,
+                    Symbol::Must(Word::Mark(Mark::OpenBrace)),
+                    Symbol::Must(Word::Mark(Mark::CloseParenthesis)),
+                    Symbol::Commas,
+                    Symbol::Operand(Mode::Assign),
+                    Symbol::Must(Word::Mark(Mark::OpenParenthesis)),
+                ],
+            )?;
             Ok(true)
         }
         Word::Key(Keyword::Break | Keyword::Continue) => {
@@ -1045,19 +1424,31 @@ fn begin_statement(pending: &mut Vec<Symbol>, below: &[Symbol], word: Word) -> R
         }
         Word::Key(Keyword::Return) => {
             put(pending, below)?;
-            put(pending, &[Symbol::Must(Word::Mark(Mark::Semicolon)), Symbol::Optional])?;
+            put(
+                pending,
+                &[Symbol::Must(Word::Mark(Mark::Semicolon)), Symbol::Optional],
+            )?;
             Ok(true)
         }
         Word::Mark(Mark::OpenBrace) => {
             put(pending, below)?;
-            put(pending, &[Symbol::Must(Word::Mark(Mark::CloseBrace)), Symbol::Body])?;
+            put(
+                pending,
+                &[Symbol::Must(Word::Mark(Mark::CloseBrace)), Symbol::Body],
+            )?;
             Ok(true)
         }
         Word::Mark(Mark::Semicolon) => {
             put(pending, below)?;
             Ok(true)
         }
-        _ => begin_operand(pending, below, &[Symbol::Must(Word::Mark(Mark::Semicolon)), Symbol::Commas], Mode::Assign, word),
+        _ => begin_operand(
+            pending,
+            below,
+            &[Symbol::Must(Word::Mark(Mark::Semicolon)), Symbol::Commas],
+            Mode::Assign,
+            word,
+        ),
     }
 }
 
@@ -1066,7 +1457,11 @@ fn statement_turn(pending: &mut Vec<Symbol>, word: Word, known: bool) -> Result<
         (upward pending.old.items) (upward pending.new.items)) }
     ensures untouched { IfOk result (λ t. Untouched t (upward pending.old.items) (upward pending.new.items)) }
 {
-    if begin_statement(pending, &[], word)? { Ok(Turn::Took) } else { Ok(Turn::Refused) }
+    if begin_statement(pending, &[], word)? {
+        Ok(Turn::Took)
+    } else {
+        Ok(Turn::Refused)
+    }
 }
 
 fn statements_turn(pending: &mut Vec<Symbol>, word: Word, known: bool) -> Result<Turn, AllocError>
@@ -1074,7 +1469,11 @@ fn statements_turn(pending: &mut Vec<Symbol>, word: Word, known: bool) -> Result
         (upward pending.old.items) (upward pending.new.items)) }
     ensures untouched { IfOk result (λ t. Untouched t (upward pending.old.items) (upward pending.new.items)) }
 {
-    if begin_statement(pending, &[Symbol::Statements], word)? { Ok(Turn::Took) } else { Ok(Turn::LeftOut) }
+    if begin_statement(pending, &[Symbol::Statements], word)? {
+        Ok(Turn::Took)
+    } else {
+        Ok(Turn::LeftOut)
+    }
 }
 
 fn cases_turn(pending: &mut Vec<Symbol>, word: Word, known: bool) -> Result<Turn, AllocError>
@@ -1083,13 +1482,27 @@ fn cases_turn(pending: &mut Vec<Symbol>, word: Word, known: bool) -> Result<Turn
     ensures untouched { IfOk result (λ t. Untouched t (upward pending.old.items) (upward pending.new.items)) }
 {
     if is(word, Word::Key(Keyword::Case)) {
-        put(pending, &[Symbol::Cases, Symbol::Must(Word::Mark(Mark::Colon)), Symbol::Operand(Mode::Cond)])?;
+        put(
+            pending,
+            &[
+                Symbol::Cases,
+                Symbol::Must(Word::Mark(Mark::Colon)),
+                Symbol::Operand(Mode::Cond),
+            ],
+        )?;
         Ok(Turn::Took)
     } else if is(word, Word::Key(Keyword::Default)) {
-        put(pending, &[Symbol::Cases, Symbol::Must(Word::Mark(Mark::Colon))])?;
+        put(
+            pending,
+            &[Symbol::Cases, Symbol::Must(Word::Mark(Mark::Colon))],
+        )?;
         Ok(Turn::Took)
     } else {
-        if begin_statement(pending, &[Symbol::Cases], word)? { Ok(Turn::Took) } else { Ok(Turn::LeftOut) }
+        if begin_statement(pending, &[Symbol::Cases], word)? {
+            Ok(Turn::Took)
+        } else {
+            Ok(Turn::LeftOut)
+        }
     }
 }
 
@@ -1108,14 +1521,23 @@ fn body_turn(pending: &mut Vec<Symbol>, word: Word, known: bool) -> Result<Turn,
                 Ok(Turn::Took)
             }
             None => {
-                if begin_statement(pending, &[Symbol::Statements], word)? { Ok(Turn::Took) } else { Ok(Turn::LeftOut) }
+                if begin_statement(pending, &[Symbol::Statements], word)? {
+                    Ok(Turn::Took)
+                } else {
+                    Ok(Turn::LeftOut)
+                }
             }
         }
     }
 }
 
 /// What a symbol in front of what is pending does with a word.
-pub(crate) fn symbol_turn(pending: &mut Vec<Symbol>, symbol: Symbol, word: Word, known: bool) -> Result<Turn, AllocError>
+pub(crate) fn symbol_turn(
+    pending: &mut Vec<Symbol>,
+    symbol: Symbol,
+    word: Word,
+    known: bool,
+) -> Result<Turn, AllocError>
     ensures turned { IfOk result (λ t. Turned known (symbol ∷ upward pending.old.items) t word
         (upward pending.old.items) (upward pending.new.items)) }
     ensures untouched { IfOk result (λ t. Untouched t (upward pending.old.items) (upward pending.new.items)) }
@@ -1165,12 +1587,23 @@ pub(crate) fn symbol_turn(pending: &mut Vec<Symbol>, symbol: Symbol, word: Word,
 }
 
 /// An item begins, where nothing is pending outside of every block.
-pub(crate) fn begin_item(pending: &mut Vec<Symbol>, word: Word, known: bool) -> Result<bool, AllocError>
+pub(crate) fn begin_item(
+    pending: &mut Vec<Symbol>,
+    word: Word,
+    known: bool,
+) -> Result<bool, AllocError>
     requires { upward pending.old.items ≡ [] }
     ensures { IfOk result (λ b. Begun known b word (upward pending.new.items)) }
 {
     if is(word, Word::Key(Keyword::Typedef)) {
-        put(pending, &[Symbol::EndTypedef, Symbol::Declarator(Naming::Typedef), Symbol::Base])?;
+        put(
+            pending,
+            &[
+                Symbol::EndTypedef,
+                Symbol::Declarator(Naming::Typedef),
+                Symbol::Base,
+            ],
+        )?;
         Ok(true)
     } else if is(word, Word::Key(Keyword::Static)) {
         put(pending, &[Symbol::FileEntries, Symbol::Base])?;

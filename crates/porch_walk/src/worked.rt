@@ -1,43 +1,37 @@
-//! What the definitions say of some small texts. The functions are laws, and have nothing to run.
+//! What the walk says of some small texts. The functions are laws, and have nothing to run.
 
 ghost use Rattle.std.specs.Prelude.{◌≡◌, None};
 ghost use Rattle.porch_tree.specs.Grammar.{syntax_fault, outside};
 ghost use Rattle.porch_walk.specs.Walk.{start, wrong, wrong_at};
-ghost use Rattle.porch_walk.specs.Worked.{good0, good1, good2, good3, good4, good5, good6, good7, bad0, bad1, bad2, bad3, bad4, bad5, bad6, bad7, bad8, bad9, bad10, bad11, bad12, bad13, bad14, bad15, bad16, bad17, bad18, bad19, out0, out1, out2, out3, out4};
+ghost use Rattle.porch_walk.specs.Worked.{smallest, whole_types, whole_data, whole_statements, whole_parameters, cut_short, two_names, typedef_list, empty_struct, cast_assigned, choice_assigned, size_suffixed, late_declaration, long_long, typedef_name_later, float_first, struct_inside, static_inside, double_behind};
 
-/// Small texts.
-pub fn small_texts()
-    ensures g0 { wrong 0 start good0 ≡ None }
-    ensures g1 { wrong 0 start good1 ≡ None }
-    ensures g2 { wrong 0 start good2 ≡ None }
-    ensures g3 { wrong 0 start good3 ≡ None }
-    ensures g4 { wrong 0 start good4 ≡ None }
-    ensures g5 { wrong 0 start good5 ≡ None }
-    ensures g6 { wrong 0 start good6 ≡ None }
-    ensures g7 { wrong 0 start good7 ≡ None }
-    ensures b0 { wrong 0 start bad0 ≡ wrong_at 8 syntax_fault }
-    ensures b1 { wrong 0 start bad1 ≡ wrong_at 3 syntax_fault }
-    ensures b2 { wrong 0 start bad2 ≡ wrong_at 1 syntax_fault }
-    ensures b3 { wrong 0 start bad3 ≡ wrong_at 2 syntax_fault }
-    ensures b4 { wrong 0 start bad4 ≡ wrong_at 0 syntax_fault }
-    ensures b5 { wrong 0 start bad5 ≡ wrong_at 3 syntax_fault }
-    ensures b6 { wrong 0 start bad6 ≡ wrong_at 3 syntax_fault }
-    ensures b7 { wrong 0 start bad7 ≡ wrong_at 5 syntax_fault }
-    ensures b8 { wrong 0 start bad8 ≡ wrong_at 4 syntax_fault }
-    ensures b9 { wrong 0 start bad9 ≡ wrong_at 5 syntax_fault }
-    ensures b10 { wrong 0 start bad10 ≡ wrong_at 6 syntax_fault }
-    ensures b11 { wrong 0 start bad11 ≡ wrong_at 4 syntax_fault }
-    ensures b12 { wrong 0 start bad12 ≡ wrong_at 10 syntax_fault }
-    ensures b13 { wrong 0 start bad13 ≡ wrong_at 11 syntax_fault }
-    ensures b14 { wrong 0 start bad14 ≡ wrong_at 8 syntax_fault }
-    ensures b15 { wrong 0 start bad15 ≡ wrong_at 10 syntax_fault }
-    ensures b16 { wrong 0 start bad16 ≡ wrong_at 8 syntax_fault }
-    ensures b17 { wrong 0 start bad17 ≡ wrong_at 1 syntax_fault }
-    ensures b18 { wrong 0 start bad18 ≡ wrong_at 10 syntax_fault }
-    ensures b19 { wrong 0 start bad19 ≡ wrong_at 13 syntax_fault }
-    ensures o0 { wrong 0 start out0 ≡ wrong_at 0 outside }
-    ensures o1 { wrong 0 start out1 ≡ wrong_at 6 outside }
-    ensures o2 { wrong 0 start out2 ≡ wrong_at 8 outside }
-    ensures o3 { wrong 0 start out3 ≡ wrong_at 8 outside }
-    ensures o4 { wrong 0 start out4 ≡ wrong_at 11 outside }
+/// Nothing is wrong in these.
+pub fn these_are_taken()
+    ensures smallest { wrong 0 start smallest ≡ None }
+    ensures whole_types { wrong 0 start whole_types ≡ None }
+    ensures whole_data { wrong 0 start whole_data ≡ None }
+    ensures whole_statements { wrong 0 start whole_statements ≡ None }
+    ensures whole_parameters { wrong 0 start whole_parameters ≡ None }
+{}
+
+/// These stop at a token, or at their end.
+pub fn these_stop()
+    ensures cut_short { wrong 0 start cut_short ≡ wrong_at 8 syntax_fault }
+    ensures two_names { wrong 0 start two_names ≡ wrong_at 2 syntax_fault }
+    ensures typedef_list { wrong 0 start typedef_list ≡ wrong_at 3 syntax_fault }
+    ensures empty_struct { wrong 0 start empty_struct ≡ wrong_at 3 syntax_fault }
+    ensures cast_assigned { wrong 0 start cast_assigned ≡ wrong_at 10 syntax_fault }
+    ensures choice_assigned { wrong 0 start choice_assigned ≡ wrong_at 11 syntax_fault }
+    ensures size_suffixed { wrong 0 start size_suffixed ≡ wrong_at 10 syntax_fault }
+    ensures late_declaration { wrong 0 start late_declaration ≡ wrong_at 8 syntax_fault }
+    ensures long_long { wrong 0 start long_long ≡ wrong_at 1 syntax_fault }
+    ensures typedef_name_later { wrong 0 start typedef_name_later ≡ wrong_at 13 syntax_fault }
+{}
+
+/// These have a token outside the language.
+pub fn these_are_outside()
+    ensures float_first { wrong 0 start float_first ≡ wrong_at 0 outside }
+    ensures struct_inside { wrong 0 start struct_inside ≡ wrong_at 6 outside }
+    ensures static_inside { wrong 0 start static_inside ≡ wrong_at 8 outside }
+    ensures double_behind { wrong 0 start double_behind ≡ wrong_at 8 outside }
 {}
