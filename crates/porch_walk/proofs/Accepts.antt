@@ -1,5 +1,5 @@
 -- The walk takes the pieces of expressions, types and declarators.
-use Rattle.std.proofs.Common.{◌≡◌, ◌≢◌, ℕ, zero, suc, ◌⊎◌, inl, inr, Bool, true, false, ◌&&◌, if◌then◌else◌, List, [], ◌∷◌, Option, Some, None, refl, sym, ap, subst, ◌∙◌, Contains}
+use Rattle.std.proofs.Common.{◌≡◌, ◌≢◌, ℕ, zero, suc, ◌⊎◌, inl, inr, Bool, true, false, if◌then◌else◌, List, [], ◌∷◌, Option, Some, None, refl, sym, ap, ◌∙◌, Contains}
 use Rattle.porch_tree.specs.declared.word.Keyword.{Keyword}
 use Rattle.porch_tree.specs.declared.word.Keyword.TheVariants as key
 use Rattle.porch_tree.specs.declared.word.Mark.{Mark}
@@ -15,11 +15,11 @@ use Rattle.porch_tree.specs.declared.tree.Infix.TheVariants as infix_variant
 use Rattle.porch_tree.specs.declared.tree.Assigning.{Assigning}
 use Rattle.porch_tree.specs.declared.tree.Assigning.TheVariants as assigning_variant
 use Rattle.porch_tree.specs.declared.tree.Level.{Level}
-use Rattle.porch_tree.specs.Words.{prefix_word, infix_mark, assigning_mark, tag_keyword}
-use Rattle.porch_tree.specs.Mirror.{Name, Expr, name, whole, character, texts, nested, suffixed, prefixed, size_of, cast, row, conditional, assign, sequence, Exprs, no_exprs, with_expr, Operands, no_operands, with_operand, Perhaps, absent, present, Suffix, index, call, member, arrow, increased, decreased, Suffixes, no_suffixes, with_suffix, Base, kind, void, typedef_name, tag, structure, enumeration, Field, field, Fields, no_fields, with_field, Constant, constant, Constants, no_constants, with_constant, Declarator, declarator, Declarators, no_declarators, with_declarator, Core, lacking as lacking_core, named as named_core, inner, Bracket, count, empty_list, void_list, param_list, Brackets, no_brackets, with_bracket, Param, param, Params, no_params, with_param, TypeName, type_name}
-use Rattle.porch_tree.specs.Pieces.{Piece, mark as mark_piece, key as key_piece, piece, spelt, text_pieces, expr_pieces, operands_pieces, more_pieces, argument_pieces, perhaps_pieces, suffixes_pieces, suffix_pieces, base_pieces, kind_pieces, const_pieces, tag_pieces, field_pieces, fields_pieces, declarators_pieces, more_declarators_pieces, constants_pieces, more_constants_pieces, given_pieces, star_pieces, core_pieces, brackets_pieces, bracket_pieces, params_pieces, more_params_pieces, declarator_pieces, first_bracket, type_name_pieces}
-use Rattle.porch_tree.specs.Formed.{IsPrimary, IsUnary, IsTighter, IsCast, IsCondition, IsCond, IsAssign, IsOperandOf, IsExpr, AreOperands, AreAssigns, IsCount, AreSuffixes, IsSuffix, IsBase, IsField, AreFields, AreDeclarators, AreConstants, IsDeclarator, IsAbstract, IsCore, AreBrackets, AreCounts, IsBracket, AreParams, IsNotVoid, BeginsParams, IsListFirst, HasTokens, IsTypeName}
-use Rattle.porch_tree.specs.Names.{first_name, takes_cast, IsPlain, IsNoType, ReadsExpr, ReadsOperands, ReadsExprs, ReadsPerhaps, ReadsSuffixes, ReadsSuffix, ReadsBase, ReadsField, ReadsFields, ReadsDeclarators, ReadsConstants, ReadsDeclarator, ReadsCore, ReadsBrackets, ReadsBracket, ReadsParams, ReadsTypeName, name_in}
+use Rattle.porch_tree.specs.Words.{infix_mark, assigning_mark}
+use Rattle.porch_tree.specs.Mirror.{Name, Expr, name, whole, character, texts, nested, suffixed, prefixed, size_of, cast, row, conditional, assign, sequence, Exprs, no_exprs, with_expr, Operands, no_operands, with_operand, Perhaps, absent, present, Suffix, index, call, member, arrow, increased, decreased, Suffixes, no_suffixes, with_suffix, Base, kind, void, typedef_name, tag, structure, enumeration, Field, field, Fields, no_fields, with_field, constant, Constants, no_constants, with_constant, Declarator, declarator, Declarators, no_declarators, with_declarator, Core, lacking as lacking_core, named as named_core, inner, count, empty_list, void_list, param_list, Brackets, no_brackets, with_bracket, param, Params, no_params, with_param, TypeName, type_name}
+use Rattle.porch_tree.specs.Pieces.{Piece, mark as mark_piece, piece, spelt, text_pieces, expr_pieces, operands_pieces, more_pieces, argument_pieces, perhaps_pieces, suffixes_pieces, suffix_pieces, base_pieces, kind_pieces, const_pieces, tag_pieces, field_pieces, fields_pieces, more_declarators_pieces, more_constants_pieces, given_pieces, star_pieces, core_pieces, brackets_pieces, params_pieces, more_params_pieces, declarator_pieces, type_name_pieces}
+use Rattle.porch_tree.specs.Formed.{IsPrimary, IsUnary, IsTighter, IsCast, IsCondition, IsCond, IsAssign, IsOperandOf, IsExpr, AreOperands, AreAssigns, IsCount, AreSuffixes, IsSuffix, IsBase, IsField, AreFields, AreDeclarators, AreConstants, IsDeclarator, AreBrackets, AreCounts, AreParams, IsNotVoid, BeginsParams, IsListFirst, HasTokens, IsTypeName}
+use Rattle.porch_tree.specs.Names.{first_name, takes_cast, IsPlain, IsNoType, ReadsExpr, ReadsOperands, ReadsExprs, ReadsPerhaps, ReadsSuffixes, ReadsSuffix, ReadsBase, ReadsField, ReadsFields, ReadsDeclarators, ReadsConstants, ReadsDeclarator, ReadsBrackets, ReadsParams, ReadsTypeName, name_in}
 use Rattle.porch_walk.specs.declared.symbol.Mode.{Mode}
 use Rattle.porch_walk.specs.declared.symbol.Mode.TheVariants as mode
 use Rattle.porch_walk.specs.declared.symbol.Naming.{Naming}
@@ -27,12 +27,12 @@ use Rattle.porch_walk.specs.declared.symbol.Naming.TheVariants as naming
 use Rattle.porch_walk.specs.declared.symbol.Kinds.{Kinds}
 use Rattle.porch_walk.specs.declared.symbol.Symbol.{Symbol}
 use Rattle.porch_walk.specs.declared.symbol.Symbol.TheVariants.{Must, Operand, Open, Texts, Suffixes as Suffixes_to_come, Behind, Commas, Optional, Base as Base_to_come, Kind, Consts, Tag, TagBody, Fields as Fields_to_come, MoreDeclarators, ConstantValue, Constants as Constants_to_come, Declarator as Declarator_to_come, Pointer, Nameless, Brackets as Brackets_to_come, Counts, Count, Parameters, Void, MoreParameters}
-use Rattle.porch_walk.specs.Walk.{Stage, step, run_from, is, is_mark, is_key, Heard, heard, name_bytes, names_type, or_else, no_kinds, kinds_behind, kinds_of, rest_of, takes_type, behind_type, contents, may_name, may_lack, goes, kind as kind_stage, base_key, base_of, base, unary, operand, nested as nested_stage, open_type, open_on, suffix, suffix_mark, is_infix, operators, declarator as declarator_stage, behind}
-use Rattle.porch_walk.proofs.Words.{same, itself, type_known, known_type}
+use Rattle.porch_walk.specs.Walk.{Stage, run_from, is, heard, name_bytes, names_type, or_else, no_kinds, kinds_behind, kinds_of, rest_of, takes_type, behind_type, contents, may_lack, kind as kind_stage, base_key, base_of, base, operand, nested as nested_stage, open_type, open_on, behind}
+use Rattle.porch_walk.proofs.Words.{same, known_type}
 use Rattle.porch_walk.proofs.KindWords.{fits, fits_from, kind_fits}
 use Rattle.porch_walk.proofs.Meaning.{Whole, IsNamed, fresh_of}
 use Rattle.porch_walk.proofs.Expressions.{never}
-use Rattle.porch_walk.proofs.Passes.{over, Heads, closes, ends, parts, follows, leaves, leaves_mark, behind_base, behind_base_mark, starts, starts_mark, closes_mark, begins, begins_mark, begins_key, begins_base, base_word, not_text, closes_are_ends, ends_are_parts, parts_are_follows, infix_parts, infix_operates, assigning_follows, takes, skips, passes, decided, differs, at, pass_suffixes, pass_behind, as_row, pass_commas, pass_texts, FirstOf, expr_first, no_base, bytes_at}
+use Rattle.porch_walk.proofs.Passes.{over, Heads, closes, ends, parts, follows, leaves, behind_base, behind_base_mark, starts, starts_mark, closes_mark, begins, begins_mark, begins_key, begins_base, base_word, not_text, closes_are_ends, ends_are_parts, parts_are_follows, infix_parts, assigning_follows, takes, skips, passes, decided, differs, at, pass_suffixes, pass_behind, as_row, pass_commas, pass_texts, expr_first, no_base, bytes_at}
 
 decided_not : (b : Bool) → (b ≡ false → ⊥) → b ≡ true
 decided_not true h = refl

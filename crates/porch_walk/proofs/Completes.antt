@@ -1,27 +1,23 @@
 -- What is pending has tokens that bring it to an end.
-use Rattle.std.proofs.Common.{◌≡◌, ◌≢◌, ℕ, zero, suc, ◌⊎◌, inl, inr, Bool, true, false, ◌&&◌, if◌then◌else◌, List, [], ◌∷◌, Option, Some, None, refl, sym, ap, subst, ◌∙◌, Contains}
+use Rattle.std.proofs.Common.{◌≡◌, ℕ, Bool, true, false, if◌then◌else◌, List, [], ◌∷◌, None, refl, sym, ap, ◌∙◌}
 use Rattle.porch_tree.specs.declared.word.Keyword.{Keyword}
 use Rattle.porch_tree.specs.declared.word.Keyword.TheVariants as key
-use Rattle.porch_tree.specs.declared.word.Mark.{Mark}
 use Rattle.porch_tree.specs.declared.word.Mark.TheVariants as mark
 use Rattle.porch_tree.specs.declared.word.Word.{Word}
 use Rattle.porch_tree.specs.declared.word.Word.TheVariants as word
 use Rattle.porch_tree.specs.declared.tree.TagSort.{TagSort}
-use Rattle.porch_tree.specs.declared.tree.TagSort.TheVariants as tag_sort
-use Rattle.porch_tree.specs.Pieces.{Spelled, Piece}
+use Rattle.porch_tree.specs.Pieces.{Piece}
 use Rattle.porch_walk.specs.declared.symbol.Mode.{Mode}
 use Rattle.porch_walk.specs.declared.symbol.Mode.TheVariants as mode
-use Rattle.porch_walk.specs.declared.symbol.Naming.{Naming}
 use Rattle.porch_walk.specs.declared.symbol.Naming.TheVariants as naming
 use Rattle.porch_walk.specs.declared.symbol.Kinds.{Kinds}
 use Rattle.porch_walk.specs.declared.symbol.Symbol.{Symbol}
 use Rattle.porch_walk.specs.declared.symbol.Symbol.TheVariants.{Must, Operand, Open, Texts, Suffixes, Behind, Commas, Optional, Base, Kind, Consts, Tag, TagBody, Fields, MoreDeclarators, ConstantValue, Constants, Declarator, Pointer, Nameless, Brackets, Counts, Count, Parameters, Void, MoreParameters, Entries, Entry, MoreEntries, Initial, MoreInitials, NextInitial, FileEntries, FirstEntry, EndTypedef, Body, Statements, Statement, Else, Cases}
-use Rattle.porch_walk.specs.Walk.{Stage, step, start, run_from, run, ends_here, is_over, is, is_mark, is_key, Heard, heard, name_bytes, names_type, or_else, no_kinds, kinds_behind, kinds_of, rest_of, takes_type, behind_type, may_name, may_lack, brackets_of, opened, contents, condition, goes, kind as kind_stage, base_key, base_of, base, unary_mark, unary_key, unary, operand, nested, open_type, open_on, suffix_mark, suffix, is_infix, is_assigning, operators, named, lacking, core, declarator, parameters, more_parameters, more_entries, entry, initial, declaration, statement_key, statement_word, statement, item, behind}
+use Rattle.porch_walk.specs.Walk.{run_from, is, is_key, heard, kinds_of, rest_of, takes_type, goes, kind as kind_stage, open_on, declaration, statement}
 use Rattle.porch_walk.proofs.Words.{same, itself}
-use Rattle.porch_walk.proofs.Passes.{over, Heads, closes, ends, leaves, behind_base, closes_are_ends, ends_are_parts, parts_are_follows, not_text, skips, passes, takes, differs, decided, at, pass_suffixes, pass_behind, as_row, pass_commas, pass_texts}
+use Rattle.porch_walk.proofs.Passes.{over, Heads, closes, leaves, behind_base, closes_are_ends, ends_are_parts, parts_are_follows, not_text, skips, passes, takes, at, pass_suffixes, pass_behind, as_row, pass_commas, pass_texts}
 use Rattle.porch_walk.proofs.Accepts.{on, pass_optional, pass_brackets, pass_counts, pass_declarator, no_value, not_const, no_kind_of, follows_no_text, after_star, leaves_no_const, tag_consts}
 use Rattle.porch_walk.proofs.Units.{Complete, complete}
-use Rattle.porch_walk.proofs.Expressions.{never}
 
 -- a token that ends something
 abbrev pub by : Bool → Word → Piece

@@ -1,35 +1,23 @@
 -- What the walk takes can come: declarators, parameters, fields and entries.
-use Rattle.std.proofs.Common.{◌≡◌, ℕ, zero, suc, ◌+◌, arith, ◌⊎◌, inl, inr, Bool, true, false, ◌&&◌, if◌then◌else◌, List, [], ◌∷◌, Option, Some, None, refl, sym, ap, subst, ◌∙◌, Contains}
+use Rattle.std.proofs.Common.{◌≡◌, ℕ, zero, suc, ◌+◌, arith, Bool, true, false, if◌then◌else◌, List, [], ◌∷◌, Option, Some, None, refl, sym, subst}
 use Rattle.porch_tree.specs.declared.word.Keyword.{Keyword}
 use Rattle.porch_tree.specs.declared.word.Keyword.TheVariants as key
-use Rattle.porch_tree.specs.declared.word.Mark.{Mark}
 use Rattle.porch_tree.specs.declared.word.Mark.TheVariants as mark
 use Rattle.porch_tree.specs.declared.word.Word.{Word}
 use Rattle.porch_tree.specs.declared.word.Word.TheVariants as word
-use Rattle.porch_tree.specs.declared.tree.TagSort.{TagSort}
 use Rattle.porch_tree.specs.declared.tree.Consts.{Consts as Consts_record}
-use Rattle.porch_tree.specs.declared.tree.TagSort.TheVariants as tag_sort
-use Rattle.porch_tree.specs.declared.tree.Prefix.{Prefix}
-use Rattle.porch_tree.specs.declared.tree.Prefix.TheVariants as prefix_variant
-use Rattle.porch_tree.specs.declared.tree.Infix.{Infix}
-use Rattle.porch_tree.specs.declared.tree.Infix.TheVariants as infix_variant
-use Rattle.porch_tree.specs.declared.tree.Assigning.{Assigning}
-use Rattle.porch_tree.specs.declared.tree.Assigning.TheVariants as assigning_variant
-use Rattle.porch_tree.specs.Words.{prefix_word, infix_mark, assigning_mark, tag_keyword}
-use Rattle.porch_tree.specs.Mirror.{Name, Expr, Exprs, no_exprs, with_expr, Perhaps, absent, present, Base, void, tag, structure, enumeration, Field, field, Fields, no_fields, with_field, Constant, constant, Constants, no_constants, with_constant, Declarator, declarator, Declarators, no_declarators, with_declarator, Core, lacking as lacking_core, named as named_core, inner, Bracket, count, empty_list, void_list, param_list, Brackets, no_brackets, with_bracket, Param, param, Params, no_params, with_param, Initial, value, braced, Initials, no_initials, with_initial, Entry}
-use Rattle.porch_tree.specs.Pieces.{Piece, mark as mark_piece, key as key_piece, piece, expr_pieces, perhaps_pieces, base_pieces, const_pieces, star_pieces, core_pieces, brackets_pieces, bracket_pieces, params_pieces, more_params_pieces, param_pieces, declarator_pieces, first_bracket, behind_consts, fields_pieces, more_declarators_pieces, more_constants_pieces, given_pieces, comma_pieces, initial_pieces, more_initials_pieces, begun_pieces, more_entries_pieces, entries_pieces}
-use Rattle.porch_tree.specs.Formed.{IsExpr, IsCond, IsCount, IsBase, IsDeclarator, IsAbstract, IsCore, IsPlacedAt, IsListFirst, HasTokens, AreBrackets, AreCounts, IsBracket, AreParams, IsNotVoid, BeginsParams, IsInitial, AreInitials, IsStart, AreEntries, AreFields, AreDeclarators, AreConstants}
-use Rattle.porch_tree.specs.Names.{ReadsPerhaps, ReadsBase, ReadsDeclarator, ReadsBrackets, ReadsBracket, ReadsParams, ReadsInitial, ReadsInitials, ReadsStart, ReadsEntries, ReadsFields, ReadsDeclarators, ReadsConstants}
-use Rattle.porch_walk.specs.declared.symbol.Mode.{Mode}
-use Rattle.porch_walk.specs.declared.symbol.Mode.TheVariants as mode
+use Rattle.porch_tree.specs.Mirror.{Base, void, Field, Fields, no_fields, with_field, Constant, Constants, no_constants, with_constant, Declarator, declarator, Declarators, no_declarators, with_declarator, Core, lacking as lacking_core, named as named_core, inner, Bracket, count, empty_list, void_list, param_list, Brackets, no_brackets, with_bracket, Param, param, Params, no_params, with_param, Initial, Initials, no_initials, with_initial}
+use Rattle.porch_tree.specs.Pieces.{Piece, mark as mark_piece, piece, base_pieces, const_pieces, star_pieces, core_pieces, brackets_pieces, bracket_pieces, more_params_pieces, declarator_pieces, first_bracket, behind_consts}
+use Rattle.porch_tree.specs.Formed.{IsDeclarator, IsListFirst, HasTokens, IsNotVoid}
+use Rattle.porch_tree.specs.Names.{ReadsDeclarator}
 use Rattle.porch_walk.specs.declared.symbol.Naming.{Naming}
 use Rattle.porch_walk.specs.declared.symbol.Naming.TheVariants as naming
 use Rattle.porch_walk.specs.declared.symbol.Symbol.{Symbol}
-use Rattle.porch_walk.specs.declared.symbol.Symbol.TheVariants.{Must, Operand, Base as Base_to_come, Consts, Tag, TagBody, Fields as Fields_to_come, MoreDeclarators, ConstantValue, Constants as Constants_to_come, Declarator as Declarator_to_come, Pointer, Nameless, Brackets as Brackets_to_come, Counts, Count, Parameters, Void, MoreParameters, Entries, Entry as Entry_to_come, MoreEntries, Initial as Initial_to_come, MoreInitials, NextInitial}
-use Rattle.porch_walk.specs.Walk.{Stage, is, is_mark, is_key, heard, name_bytes, or_else, may_name, may_lack, brackets_of, opened, contents, goes, base_of, base, operand, named, lacking, core, declarator as declarator_stage, parameters, more_parameters, more_entries, entry, initial}
-use Rattle.porch_walk.proofs.Tokens.{Token, name_of, ArePieces, IsA, Reads, Takes, unplaced, unplaced_brackets, keyed_params, pieces_of, pieces_fit}
-use Rattle.porch_walk.proofs.Meaning.{AnOperand, ABase, ADeclarator, APointer, ABracket, Someinitials, AnEntry, SomeEntries, MoreFields, IsNamed, fresh_of, Means, Comes}
-use Rattle.porch_walk.proofs.Expressions.{never, test, either, is_word, is_not, base_taken, base_of_taken, operand_taken}
+use Rattle.porch_walk.specs.declared.symbol.Symbol.TheVariants.{Must, Base as Base_to_come, Consts, Declarator as Declarator_to_come, Pointer, Nameless, Brackets as Brackets_to_come, Count, Void, MoreParameters}
+use Rattle.porch_walk.specs.Walk.{Stage, is, is_mark, is_key, heard, name_bytes, or_else, may_name, may_lack, brackets_of, opened, goes, base_of, named, lacking, core, declarator as declarator_stage, more_parameters}
+use Rattle.porch_walk.proofs.Tokens.{Token, name_of, ArePieces, IsA, unplaced, unplaced_brackets, keyed_params, pieces_of, pieces_fit}
+use Rattle.porch_walk.proofs.Meaning.{ABase, ADeclarator, ABracket, IsNamed, fresh_of, Means, Comes}
+use Rattle.porch_walk.proofs.Expressions.{never, test, either, is_word, is_not, base_of_taken}
 
 -- a declarator with one more star in front
 abbrev star_first : ℕ → ℕ → Declarator → Declarator

@@ -1,13 +1,11 @@
 -- What the walk takes can come: expressions.
-use Rattle.std.proofs.Common.{◌≡◌, ℕ, suc, ◌⊎◌, inl, inr, Bool, true, false, ◌&&◌, if◌then◌else◌, List, [], ◌∷◌, Option, Some, None, refl, sym, ap, subst, ◌∙◌, Contains}
+use Rattle.std.proofs.Common.{◌≡◌, ℕ, suc, Bool, true, false, ◌&&◌, if◌then◌else◌, List, [], ◌∷◌, Option, Some, None, refl, sym, ap, subst, ◌∙◌, Contains}
 use Rattle.porch_tree.specs.declared.word.Keyword.{Keyword}
 use Rattle.porch_tree.specs.declared.word.Keyword.TheVariants as key
 use Rattle.porch_tree.specs.declared.word.Mark.{Mark}
 use Rattle.porch_tree.specs.declared.word.Mark.TheVariants as mark
 use Rattle.porch_tree.specs.declared.word.Word.{Word}
 use Rattle.porch_tree.specs.declared.word.Word.TheVariants as word
-use Rattle.porch_tree.specs.declared.tree.TagSort.{TagSort}
-use Rattle.porch_tree.specs.declared.tree.TagSort.TheVariants as tag_sort
 use Rattle.porch_tree.specs.declared.tree.Prefix.{Prefix}
 use Rattle.porch_tree.specs.declared.tree.Prefix.TheVariants as prefix_variant
 use Rattle.porch_tree.specs.declared.tree.Infix.{Infix}
@@ -15,21 +13,21 @@ use Rattle.porch_tree.specs.declared.tree.Infix.TheVariants as infix_variant
 use Rattle.porch_tree.specs.declared.tree.Assigning.{Assigning}
 use Rattle.porch_tree.specs.declared.tree.Assigning.TheVariants as assigning_variant
 use Rattle.porch_tree.specs.Words.{prefix_word, infix_mark, assigning_mark, tag_keyword}
-use Rattle.porch_tree.specs.Mirror.{Name, Expr, name, whole, character, texts, nested, suffixed, prefixed, size_of, cast, row, conditional, assign, sequence, Exprs, no_exprs, with_expr, Perhaps, absent, present, Suffix, index, call, member, arrow, increased, decreased, Suffixes, no_suffixes, with_suffix, Base, kind, void, typedef_name, tag, structure, enumeration, TypeName, type_name}
-use Rattle.porch_tree.specs.Pieces.{Piece, mark as mark_piece, key as key_piece, piece, text_pieces, expr_pieces, more_pieces, argument_pieces, suffixes_pieces, base_pieces, kind_pieces, const_pieces, type_name_pieces}
+use Rattle.porch_tree.specs.Mirror.{Expr, name, whole, character, texts, nested, suffixed, prefixed, size_of, cast, row, conditional, assign, sequence, Exprs, no_exprs, with_expr, Suffix, index, call, member, arrow, increased, decreased, Suffixes, no_suffixes, with_suffix, Base, kind, void, typedef_name, tag, structure, enumeration, TypeName, type_name}
+use Rattle.porch_tree.specs.Pieces.{Piece, mark as mark_piece, expr_pieces, more_pieces, suffixes_pieces, base_pieces, type_name_pieces}
 use Rattle.porch_tree.specs.Formed.{IsPrimary, IsUnary, IsCast, IsCondition, IsCond, IsAssign, IsOperandOf, IsExpr, AreAssigns, AreSuffixes, IsBase, IsTypeName}
-use Rattle.porch_tree.specs.Names.{first_name, takes_cast, IsNoType, ReadsExpr, ReadsExprs, ReadsSuffixes, ReadsBase, ReadsTypeName}
+use Rattle.porch_tree.specs.Names.{takes_cast, IsNoType, ReadsExpr, ReadsExprs, ReadsSuffixes, ReadsBase, ReadsTypeName}
 use Rattle.porch_tree.specs.Grammar.{HasBytes}
 use Rattle.porch_walk.specs.declared.symbol.Mode.{Mode}
 use Rattle.porch_walk.specs.declared.symbol.Mode.TheVariants as mode
 use Rattle.porch_walk.specs.declared.symbol.Naming.TheVariants as naming
 use Rattle.porch_walk.specs.declared.symbol.Kinds.{Kinds}
 use Rattle.porch_walk.specs.declared.symbol.Symbol.{Symbol}
-use Rattle.porch_walk.specs.declared.symbol.Symbol.TheVariants.{Must, Operand, Open, Texts, Suffixes as Suffixes_to_come, Behind, Commas, Optional, Base as Base_to_come, Kind, Consts, Tag, Declarator as Declarator_to_come}
-use Rattle.porch_walk.specs.Walk.{Stage, is, is_mark, is_key, heard, name_bytes, names_type, or_else, no_kinds, kinds_behind, is_infix, is_assigning, rest_of, takes_type, behind_type, goes, kind as kind_stage, base_key, base_of, base, unary_mark, unary_key, unary, operand, nested as nested_stage, open_type, open_on, suffix_mark, suffix, operators}
+use Rattle.porch_walk.specs.declared.symbol.Symbol.TheVariants.{Must, Operand, Texts, Suffixes as Suffixes_to_come, Behind, Commas, Kind, Declarator as Declarator_to_come}
+use Rattle.porch_walk.specs.Walk.{Stage, is, is_mark, heard, name_bytes, names_type, or_else, no_kinds, kinds_behind, is_infix, is_assigning, rest_of, takes_type, behind_type, kind as kind_stage, base_key, base_of, base, unary_mark, unary_key, unary, operand, nested as nested_stage, open_type, open_on, suffix_mark, suffix, operators}
 use Rattle.porch_walk.proofs.Words.{same, itself, type_known, known_type}
 use Rattle.porch_walk.proofs.KindWords.{fits, fits_from, is_const, first_fits, fits_kind, kind_fits}
-use Rattle.porch_walk.proofs.Tokens.{Token, name_of, ArePieces, IsA, Reads, Takes, unplaced_kind, unplaced_consts, unplaced_word, pieces_of, pieces_fit, NoType, plain_first}
+use Rattle.porch_walk.proofs.Tokens.{Token, name_of, ArePieces, IsA, Reads, unplaced_kind, unplaced_consts, unplaced_word, pieces_of, pieces_fit, NoType, plain_first}
 use Rattle.porch_walk.proofs.Meaning.{Whole, May, IsAny, AnExpr, AnOperand, ABase, Means, Comes}
 use Rattle.porch_walk.proofs.Joined.{joined}
 

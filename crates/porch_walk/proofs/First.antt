@@ -1,5 +1,5 @@
 -- What the walk answers is true of the units that a text begins.
-use Rattle.std.proofs.Common.{◌≡◌, ℕ, zero, suc, ◌+◌, ◌<◌, ◌≤◌, ◌⊎◌, inl, inr, Bool, true, false, ◌&&◌, ◌||◌, IsTrue, if◌then◌else◌, List, [], ◌∷◌, ◌++◌, map, length, take, drop, slice_get, Option, Some, None, refl, sym, ap, subst, ◌∙◌, arith, add-one}
+use Rattle.std.proofs.Common.{◌≡◌, ℕ, zero, suc, ◌+◌, ◌<◌, ◌≤◌, ◌⊎◌, inl, inr, Bool, true, false, ◌&&◌, ◌||◌, if◌then◌else◌, List, [], ◌∷◌, ◌++◌, map, length, take, drop, slice_get, Option, Some, None, refl, sym, ap, subst, ◌∙◌, arith, add-one}
 use Rattle.std.proofs.Math.Seq.{take-length}
 use Rattle.std.proofs.lemmas.List.{take-append-drop}
 use Rattle.porch_tree.specs.declared.word.Keyword.{Keyword}
@@ -9,29 +9,22 @@ use Rattle.porch_tree.specs.declared.word.Mark.TheVariants as mark
 use Rattle.porch_tree.specs.declared.word.Word.{Word}
 use Rattle.porch_tree.specs.declared.word.Word.TheVariants as word
 use Rattle.porch_tree.specs.declared.tree.TagSort.{TagSort}
-use Rattle.porch_tree.specs.declared.tree.TagSort.TheVariants as tag_sort
 use Rattle.porch_tree.specs.Pieces.{Spelled, Piece}
-use Rattle.porch_walk.specs.declared.symbol.Mode.{Mode}
 use Rattle.porch_walk.specs.declared.symbol.Mode.TheVariants as mode
-use Rattle.porch_walk.specs.declared.symbol.Naming.{Naming}
 use Rattle.porch_walk.specs.declared.symbol.Naming.TheVariants as naming
-use Rattle.porch_walk.specs.declared.symbol.Kinds.{Kinds}
 use Rattle.porch_walk.specs.declared.symbol.Symbol.{Symbol}
 use Rattle.porch_walk.specs.declared.symbol.Symbol.TheVariants.{Must, Operand, Open, Texts, Suffixes, Behind, Commas, Optional, Base, Kind, Consts, Tag, TagBody, Fields, MoreDeclarators, ConstantValue, Constants, Declarator, Pointer, Nameless, Brackets, Counts, Count, Parameters, Void, MoreParameters, Entries, Entry, MoreEntries, Initial, MoreInitials, NextInitial, FileEntries, FirstEntry, EndTypedef, Body, Statements, Statement, Else, Cases}
-use Rattle.porch_walk.specs.Walk.{Stage, step, start, run_from, run, ends_here, is_over, name_bytes, heard, Wrong, wrong_at, wrong_from, wrong, behind, or_else, ToldOf, Told, is, is_mark, goes, contents}
+use Rattle.porch_walk.specs.Walk.{Stage, step, start, run_from, run, ends_here, is_over, name_bytes, heard, Wrong, wrong_at, wrong_from, wrong, behind, ToldOf, Told, is, is_mark, goes, contents}
 use Rattle.porch_tree.specs.Mirror.{TranslationUnit}
 use Rattle.porch_tree.specs.Pieces.{unit_pieces}
-use Rattle.porch_tree.specs.Names.{ReadsNames}
-use Rattle.porch_tree.specs.Formed.{AreItems}
-use Rattle.porch_tree.specs.Grammar.{HasPlace, HasBytes, Matches, AreMatched, is_outside_key, is_file_key, is_tag_key, is_brace, is_name, begins_brace, is_outside, AreWithin, IsDeepUnit, Begins, AreBeginning, Stops, at_token, at_end, inside_at, IsOutside, Fault, syntax_fault, outside}
+use Rattle.porch_tree.specs.Grammar.{HasBytes, Matches, AreMatched, is_outside_key, is_file_key, is_tag_key, is_brace, begins_brace, is_outside, AreWithin, IsDeepUnit, AreBeginning, Stops, at_token, at_end, inside_at, IsOutside, Fault, syntax_fault, outside}
 use Rattle.porch_walk.proofs.Passes.{over, Heads, behind_base, behind_base_mark, at}
 use Rattle.porch_walk.proofs.Words.{same}
-use Rattle.porch_walk.proofs.Completes.{completion, Good, safe, safe_key, completes, by}
+use Rattle.porch_walk.proofs.Completes.{completion, Good, safe, safe_key, completes}
 use Rattle.porch_walk.proofs.Kept.{run_good, kept, GoodIf}
-use Rattle.porch_walk.proofs.Tokens.{Token, IsPiece, ArePieces}
-use Rattle.porch_walk.proofs.Meaning.{AUnit}
+use Rattle.porch_walk.proofs.Tokens.{IsPiece, ArePieces}
 use Rattle.porch_walk.proofs.Sound.{met, met_on, run_read}
-use Rattle.porch_walk.proofs.Units.{Complete, unit_run}
+use Rattle.porch_walk.proofs.Units.{unit_run}
 use Rattle.porch_walk.proofs.Expressions.{never}
 
 -- tokens and their pieces

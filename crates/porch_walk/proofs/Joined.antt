@@ -1,5 +1,5 @@
 -- One more operator with its operand behind a row, grouped as the levels say.
-use Rattle.std.proofs.Common.{◌≡◌, ℕ, ◌<◌, inl, inr, Bool, true, List, [], ◌∷◌, refl, sym, ap, ◌∙◌, subst, get_or, arith}
+use Rattle.std.proofs.Common.{◌≡◌, ℕ, ◌<◌, inl, inr, Bool, true, List, [], ◌∷◌, refl, sym, ap, ◌∙◌, get_or}
 use Rattle.std.proofs.lemmas.Bool.{cases_order}
 use Rattle.porch_tree.specs.declared.tree.Infix.{Infix}
 use Rattle.porch_tree.specs.declared.tree.Level.{Level}

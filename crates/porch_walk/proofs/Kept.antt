@@ -1,5 +1,5 @@
 -- What can be brought to an end stays so, whatever the walk takes.
-use Rattle.std.proofs.Common.{◌≡◌, ◌≢◌, ℕ, zero, suc, ◌⊎◌, inl, inr, Bool, true, false, ◌&&◌, if◌then◌else◌, List, [], ◌∷◌, Option, Some, None, refl, sym, ap, subst, ◌∙◌, Contains}
+use Rattle.std.proofs.Common.{◌≡◌, ℕ, Bool, true, false, ◌&&◌, if◌then◌else◌, List, [], ◌∷◌, Option, Some, None, refl, subst}
 use Rattle.porch_tree.specs.declared.word.Keyword.{Keyword}
 use Rattle.porch_tree.specs.declared.word.Keyword.TheVariants as key
 use Rattle.porch_tree.specs.declared.word.Mark.{Mark}
@@ -8,7 +8,7 @@ use Rattle.porch_tree.specs.declared.word.Word.{Word}
 use Rattle.porch_tree.specs.declared.word.Word.TheVariants as word
 use Rattle.porch_tree.specs.declared.tree.TagSort.{TagSort}
 use Rattle.porch_tree.specs.declared.tree.TagSort.TheVariants as tag_sort
-use Rattle.porch_tree.specs.Pieces.{Spelled, Piece}
+use Rattle.porch_tree.specs.Pieces.{Spelled}
 use Rattle.porch_walk.specs.declared.symbol.Mode.{Mode}
 use Rattle.porch_walk.specs.declared.symbol.Mode.TheVariants as mode
 use Rattle.porch_walk.specs.declared.symbol.Naming.{Naming}
@@ -16,10 +16,9 @@ use Rattle.porch_walk.specs.declared.symbol.Naming.TheVariants as naming
 use Rattle.porch_walk.specs.declared.symbol.Kinds.{Kinds}
 use Rattle.porch_walk.specs.declared.symbol.Symbol.{Symbol}
 use Rattle.porch_walk.specs.declared.symbol.Symbol.TheVariants.{Must, Operand, Open, Texts, Suffixes, Behind, Commas, Optional, Base, Kind, Consts, Tag, TagBody, Fields, MoreDeclarators, ConstantValue, Constants, Declarator, Pointer, Nameless, Brackets, Counts, Count, Parameters, Void, MoreParameters, Entries, Entry, MoreEntries, Initial, MoreInitials, NextInitial, FileEntries, FirstEntry, EndTypedef, Body, Statements, Statement, Else, Cases}
-use Rattle.porch_walk.specs.Walk.{Stage, step, start, run_from, run, ends_here, is_over, is, is_mark, is_key, Heard, heard, name_bytes, names_type, or_else, no_kinds, kinds_behind, kinds_of, rest_of, takes_type, behind_type, may_name, may_lack, brackets_of, opened, contents, condition, goes, kind as kind_stage, base_key, base_of, base, unary_mark, unary_key, unary, operand, nested, open_type, open_on, suffix_mark, suffix, is_infix, is_assigning, operators, named, lacking, core, declarator, parameters, more_parameters, more_entries, entry, initial, declaration, statement_key, statement_word, statement, item, behind}
+use Rattle.porch_walk.specs.Walk.{Stage, step, run_from, run, is, is_mark, is_key, Heard, heard, names_type, or_else, no_kinds, kinds_behind, kinds_of, rest_of, takes_type, behind_type, may_name, may_lack, brackets_of, opened, contents, goes, kind as kind_stage, base_key, base_of, base, unary_mark, unary_key, unary, operand, nested, open_type, open_on, suffix_mark, suffix, is_infix, is_assigning, operators, named, lacking, core, declarator, more_parameters, more_entries, entry, initial, declaration, statement_key, statement_word, statement, item, behind}
 use Rattle.porch_walk.proofs.Passes.{Heads, closes, leaves, behind_base}
-use Rattle.porch_walk.proofs.Completes.{completion, Good, IsLast, brace, no_else, safe, brace_no_else, brace_closes, last_good}
-use Rattle.porch_walk.proofs.Expressions.{never}
+use Rattle.porch_walk.proofs.Completes.{completion, Good, IsLast, no_else, brace_no_else, last_good}
 
 abbrev pub GoodIf : Option Stage → Type 0
 GoodIf None = Unit {0}

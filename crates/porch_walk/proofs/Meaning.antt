@@ -1,13 +1,10 @@
 -- What is pending as tokens: the parts that may come, one after another, and then a unit's items.
-use Rattle.std.proofs.Common.{◌≡◌, ℕ, suc, ◌⊎◌, inl, inr, Bool, true, false, List, [], ◌∷◌, Option, Some, None, IsTrue}
-use Rattle.porch_tree.specs.declared.word.Keyword.{Keyword}
+use Rattle.std.proofs.Common.{◌≡◌, ℕ, suc, ◌⊎◌, Bool, true, false, List, [], ◌∷◌, Option, Some, None}
 use Rattle.porch_tree.specs.declared.word.Keyword.TheVariants as key
 use Rattle.porch_tree.specs.declared.word.Mark.TheVariants as mark
-use Rattle.porch_tree.specs.declared.word.Word.{Word}
 use Rattle.porch_tree.specs.declared.word.Word.TheVariants as word
-use Rattle.porch_tree.specs.declared.tree.TagSort.{TagSort}
 use Rattle.porch_tree.specs.Words.{tag_keyword}
-use Rattle.porch_tree.specs.Mirror.{Name, Expr, Exprs, Perhaps, Suffixes, Base, Fields, Constants, Declarator, Declarators, Bracket, Brackets, Params, Initial, Initials, Entry, Declaration, Stmt, Stmts, SwitchEntries, TranslationUnit}
+use Rattle.porch_tree.specs.Mirror.{Expr, Declarator, Initial, Initials, Entry, Declaration, Stmts, TranslationUnit}
 use Rattle.porch_tree.specs.Pieces.{Piece, key as key_piece, mark as mark_piece, text_pieces, const_pieces, kind_pieces, expr_pieces, more_pieces, argument_pieces, perhaps_pieces, suffixes_pieces, base_pieces, fields_pieces, more_declarators_pieces, more_constants_pieces, given_pieces, declarator_pieces, brackets_pieces, bracket_pieces, more_params_pieces, comma_pieces, initial_pieces, more_initials_pieces, begun_pieces, more_entries_pieces, entries_pieces, declarations_pieces, stmt_pieces, stmts_pieces, switch_pieces, unit_pieces}
 use Rattle.porch_tree.specs.Formed.{IsUnary, IsCast, IsCondition, IsCond, IsAssign, IsExpr, AreAssigns, IsCount, AreSuffixes, IsBase, AreFields, AreDeclarators, AreConstants, IsDeclarator, IsAbstract, AreBrackets, AreCounts, IsBracket, AreParams, IsInitial, AreInitials, IsStart, AreEntries, AreDeclarations, IsClosed, IsStmt, AreStmts, AreSwitchEntries, AreItems}
 use Rattle.porch_tree.specs.Names.{name_in, ReadsExpr, ReadsExprs, ReadsPerhaps, ReadsSuffixes, ReadsBase, ReadsFields, ReadsDeclarators, ReadsConstants, ReadsDeclarator, ReadsBrackets, ReadsBracket, ReadsParams, ReadsInitial, ReadsInitials, ReadsStart, ReadsEntries, ReadsDeclarations, BeginsPlain, ReadsStmt, ReadsStmts, ReadsEntriesOf, ReadsNames}

@@ -1,35 +1,26 @@
 -- What the walk takes can come: each symbol, and so whole units.
-use Rattle.std.proofs.Common.{◌≡◌, ◌≢◌, ℕ, zero, suc, ◌⊎◌, inl, inr, Bool, true, false, ◌&&◌, if◌then◌else◌, List, [], ◌∷◌, Option, Some, None, refl, sym, ap, subst, ◌∙◌, Contains}
+use Rattle.std.proofs.Common.{◌≡◌, ◌≢◌, ℕ, suc, ◌⊎◌, inl, inr, Bool, true, false, if◌then◌else◌, List, [], ◌∷◌, Option, Some, None, refl, sym, ap, subst, ◌∙◌}
 use Rattle.porch_tree.specs.declared.word.Keyword.{Keyword}
 use Rattle.porch_tree.specs.declared.word.Keyword.TheVariants as key
-use Rattle.porch_tree.specs.declared.word.Mark.{Mark}
 use Rattle.porch_tree.specs.declared.word.Mark.TheVariants as mark
 use Rattle.porch_tree.specs.declared.word.Word.{Word}
 use Rattle.porch_tree.specs.declared.word.Word.TheVariants as word
 use Rattle.porch_tree.specs.declared.tree.TagSort.{TagSort}
 use Rattle.porch_tree.specs.declared.tree.TagSort.TheVariants as tag_sort
-use Rattle.porch_tree.specs.declared.tree.Prefix.{Prefix}
-use Rattle.porch_tree.specs.declared.tree.Prefix.TheVariants as prefix_variant
-use Rattle.porch_tree.specs.declared.tree.Infix.{Infix}
-use Rattle.porch_tree.specs.declared.tree.Infix.TheVariants as infix_variant
-use Rattle.porch_tree.specs.declared.tree.Assigning.{Assigning}
-use Rattle.porch_tree.specs.declared.tree.Assigning.TheVariants as assigning_variant
-use Rattle.porch_tree.specs.Words.{prefix_word, infix_mark, assigning_mark, tag_keyword}
-use Rattle.porch_tree.specs.Mirror.{Name, Expr, Exprs, no_exprs, with_expr, Perhaps, absent, present, Suffixes, no_suffixes, Base, tag, structure, enumeration, Field, field, Fields, no_fields, with_field, Constant, constant, Constants, no_constants, with_constant, Declarator, Declarators, no_declarators, with_declarator, Bracket, count, empty_list, Brackets, no_brackets, with_bracket, Initial, value, braced, Initials, no_initials, with_initial, Entry, Declaration, Stmt, block, evaluate, choose, choose_else, while_loop, do_loop, for_loop, switch, break, continue, give, Stmts, no_stmts, with_stmt, SwitchEntry, case, default, stmt, SwitchEntries, no_entries, with_entry, Definition, Item, typedef, declaration, function, TranslationUnit}
-use Rattle.porch_tree.specs.Pieces.{Spelled, Piece, mark as mark_piece, key as key_piece, piece, spelt, expr_pieces, argument_pieces, whole_pieces, optional_pieces, initial_pieces, fields_pieces, constants_pieces, static_pieces, declaration_pieces, stmt_pieces, stmts_pieces, switch_pieces}
+use Rattle.porch_tree.specs.Words.{tag_keyword}
+use Rattle.porch_tree.specs.Mirror.{Exprs, no_exprs, with_expr, Perhaps, absent, present, no_suffixes, tag, structure, enumeration, field, no_fields, with_field, constant, no_constants, with_constant, Declarator, no_declarators, with_declarator, count, empty_list, no_brackets, with_bracket, Initial, value, braced, no_initials, with_initial, Entry, Stmt, block, evaluate, choose, choose_else, while_loop, do_loop, for_loop, switch, break, continue, give, no_stmts, with_stmt, SwitchEntry, case, default, stmt, no_entries, with_entry, typedef, declaration, function}
+use Rattle.porch_tree.specs.Pieces.{Spelled, Piece, mark as mark_piece, piece, argument_pieces, whole_pieces, optional_pieces, fields_pieces, constants_pieces, static_pieces, declaration_pieces, switch_pieces}
 use Rattle.porch_tree.specs.Formed.{IsAssign, IsExpr, AreAssigns, IsOptional, AreFields, AreConstants, IsDeclaration, IsClosed, IsSwitchEntry}
 use Rattle.porch_tree.specs.Names.{ReadsExpr, ReadsExprs, ReadsPerhaps, ReadsFields, ReadsConstants, ReadsDeclaration, ReadsSwitchEntry}
-use Rattle.porch_walk.specs.declared.symbol.Mode.{Mode}
 use Rattle.porch_walk.specs.declared.symbol.Mode.TheVariants as mode
-use Rattle.porch_walk.specs.declared.symbol.Naming.{Naming}
 use Rattle.porch_walk.specs.declared.symbol.Naming.TheVariants as naming
 use Rattle.porch_walk.specs.declared.symbol.Kinds.{Kinds}
 use Rattle.porch_walk.specs.declared.symbol.Symbol.{Symbol}
 use Rattle.porch_walk.specs.declared.symbol.Symbol.TheVariants.{Must, Operand, Open, Texts, Suffixes as Suffixes_to_come, Behind, Commas, Optional, Base as Base_to_come, Kind, Consts, Tag, TagBody, Fields as Fields_to_come, MoreDeclarators, ConstantValue, Constants as Constants_to_come, Declarator as Declarator_to_come, Pointer, Nameless, Brackets as Brackets_to_come, Counts, Count, Parameters, Void, MoreParameters, Entries, Entry as Entry_to_come, MoreEntries, Initial as Initial_to_come, MoreInitials, NextInitial, FileEntries, FirstEntry, EndTypedef, Body, Statements, Statement, Else, Cases}
-use Rattle.porch_walk.specs.Walk.{Stage, start, step, run_from, run, ends_here, is_over, is, is_mark, is_key, Heard, heard, or_else, kinds_behind, kinds_of, takes_type, contents, condition, goes, kind as kind_stage, base, operand, open_on, suffix, operators, declarator as declarator_stage, parameters, more_parameters, more_entries, entry, initial, declaration as declaration_stage, statement_key, statement_word, statement, item, behind}
+use Rattle.porch_walk.specs.Walk.{Stage, step, run_from, run, ends_here, is_over, is, is_mark, is_key, heard, or_else, kinds_of, takes_type, contents, condition, goes, kind as kind_stage, base, operand, suffix, operators, more_entries, entry, initial, declaration as declaration_stage, statement_key, statement_word, statement, item, behind}
 use Rattle.porch_walk.proofs.KindWords.{fits, fits_from, next_fits}
-use Rattle.porch_walk.proofs.Tokens.{Token, name_of, IsPiece, ArePieces, IsA, Reads, Takes, unplaced_bracket, pieces_of, pieces_fit, NoType, plain_stmts}
-use Rattle.porch_walk.proofs.Meaning.{IsAny, AnExpr, AnOperand, ABase, ADeclarator, ABracket, Someinitials, AnEntry, SomeEntries, MoreFields, ABody, ABlock, AStmt, AnElse, AUnit, No_else, Means, Comes}
+use Rattle.porch_walk.proofs.Tokens.{Token, name_of, IsPiece, ArePieces, IsA, Reads, unplaced_bracket, pieces_of, pieces_fit, NoType, plain_stmts}
+use Rattle.porch_walk.proofs.Meaning.{AnExpr, AnOperand, ABase, ADeclarator, ABracket, AnEntry, SomeEntries, ABody, ABlock, AStmt, AUnit, No_else, Means, Comes}
 use Rattle.porch_walk.proofs.Expressions.{never, test, either, is_word, is_not, comma_expr, comma_fits, comma_formed, comma_names, base_taken, an_expr, operand_taken, open_taken, no_type, suffix_taken, operators_taken, left_behind}
 use Rattle.porch_walk.proofs.Declarators.{declarator_taken, pointer_const, pointer_on, parameters_in, void_on, more_parameters_taken, void_alone, void_consts, nameless_taken, some_fields, some_constants, some_declarators, some_initials}
 

@@ -1,12 +1,12 @@
 -- Tokens with the block that they lie in, and the pieces that they are.
-use Rattle.std.proofs.Common.{◌≡◌, ℕ, zero, suc, Bool, true, false, List, [], ◌∷◌, Option, Some, None, refl, sym, ap, subst, ◌∙◌, Contains}
+use Rattle.std.proofs.Common.{◌≡◌, ℕ, zero, suc, Bool, true, List, [], ◌∷◌, Option, Some, None, refl, sym, subst, ◌∙◌, Contains}
 use Rattle.porch_tree.specs.declared.word.Keyword.{Keyword}
 use Rattle.porch_tree.specs.declared.word.Keyword.TheVariants as key
 use Rattle.porch_tree.specs.declared.word.Mark.TheVariants as mark
 use Rattle.porch_tree.specs.declared.word.Word.{Word}
 use Rattle.porch_tree.specs.declared.word.Word.TheVariants as word
 use Rattle.porch_tree.specs.Mirror.{Name, Expr, name, whole, character, texts, nested, suffixed, prefixed, size_of, cast, row, conditional, assign, sequence, Bracket, count, empty_list, void_list, param_list, Brackets, no_brackets, with_bracket, Params, no_params, with_param, param, typedef_name, Stmts, no_stmts, with_stmt, evaluate, absent, present}
-use Rattle.porch_tree.specs.Pieces.{Piece, piece, spelt, expr_pieces, const_pieces, kind_pieces, star_pieces, behind_consts, bracket_pieces, brackets_pieces, base_pieces, params_pieces, stmts_pieces, suffixes_pieces, operands_pieces, more_pieces}
+use Rattle.porch_tree.specs.Pieces.{Piece, piece, spelt, expr_pieces, const_pieces, kind_pieces, star_pieces, behind_consts, bracket_pieces, brackets_pieces, params_pieces, stmts_pieces, suffixes_pieces, operands_pieces, more_pieces}
 use Rattle.porch_tree.specs.Formed.{BeginsParams}
 use Rattle.porch_tree.specs.Names.{first_name, IsPlain, BeginsPlain}
 use Rattle.porch_tree.specs.Grammar.{HasPlace, HasBytes}

@@ -1,37 +1,23 @@
 -- The walk takes the pieces of declarations, statements and units.
-use Rattle.std.proofs.Common.{◌≡◌, ◌≢◌, ℕ, zero, suc, ◌⊎◌, inl, inr, Bool, true, false, ◌&&◌, if◌then◌else◌, List, [], ◌∷◌, Option, Some, None, refl, sym, ap, subst, ◌∙◌, Contains}
+use Rattle.std.proofs.Common.{◌≡◌, ℕ, suc, inl, inr, Bool, true, false, if◌then◌else◌, List, [], ◌∷◌, Option, Some, None, refl, sym, ap, ◌∙◌}
 use Rattle.porch_tree.specs.declared.word.Keyword.{Keyword}
 use Rattle.porch_tree.specs.declared.word.Keyword.TheVariants as key
 use Rattle.porch_tree.specs.declared.word.Mark.{Mark}
 use Rattle.porch_tree.specs.declared.word.Mark.TheVariants as mark
 use Rattle.porch_tree.specs.declared.word.Word.{Word}
 use Rattle.porch_tree.specs.declared.word.Word.TheVariants as word
-use Rattle.porch_tree.specs.declared.tree.TagSort.{TagSort}
-use Rattle.porch_tree.specs.declared.tree.TagSort.TheVariants as tag_sort
-use Rattle.porch_tree.specs.declared.tree.Prefix.{Prefix}
-use Rattle.porch_tree.specs.declared.tree.Prefix.TheVariants as prefix_variant
-use Rattle.porch_tree.specs.declared.tree.Infix.{Infix}
-use Rattle.porch_tree.specs.declared.tree.Infix.TheVariants as infix_variant
-use Rattle.porch_tree.specs.declared.tree.Assigning.{Assigning}
-use Rattle.porch_tree.specs.declared.tree.Assigning.TheVariants as assigning_variant
-use Rattle.porch_tree.specs.declared.tree.Level.{Level}
-use Rattle.porch_tree.specs.Words.{prefix_word, infix_mark, assigning_mark, tag_keyword}
-use Rattle.porch_tree.specs.Mirror.{Name, Expr, Exprs, Perhaps, absent, present, Base, Declarator, Initial, value, braced, Initials, no_initials, with_initial, Entry, Declaration, Stmt, block, evaluate, choose, choose_else, while_loop, do_loop, for_loop, switch, break, continue, give, Stmts, no_stmts, with_stmt, SwitchEntry, case, default, stmt, SwitchEntries, no_entries, with_entry, Definition, Item, typedef, declaration, function, TranslationUnit}
-use Rattle.porch_tree.specs.Pieces.{Spelled, Piece, mark as mark_piece, key as key_piece, expr_pieces, whole_pieces, optional_pieces, comma_pieces, initial_pieces, more_initials_pieces, begun_pieces, more_entries_pieces, entries_pieces, declarator_pieces, base_pieces, static_pieces, declaration_pieces, declarations_pieces, stmt_pieces, stmts_pieces, switch_pieces, item_pieces, unit_pieces}
-use Rattle.porch_tree.specs.Formed.{IsExpr, IsOptional, IsInitial, AreInitials, IsStart, AreEntries, IsDeclaration, AreDeclarations, IsBase, IsDeclarator, IsClosed, IsStmt, AreStmts, AreSwitchEntries, IsSwitchEntry, AreItems}
-use Rattle.porch_tree.specs.Names.{first_name, IsPlain, BeginsPlain, ReadsExpr, ReadsPerhaps, ReadsInitial, ReadsInitials, ReadsStart, ReadsEntries, ReadsDeclaration, ReadsDeclarations, ReadsBase, ReadsStmt, ReadsStmts, ReadsEntriesOf, ReadsSwitchEntry, ReadsNames, name_in}
-use Rattle.porch_walk.specs.declared.symbol.Mode.{Mode}
+use Rattle.porch_tree.specs.Mirror.{Expr, Perhaps, absent, present, Base, Declarator, Initial, value, braced, Initials, no_initials, with_initial, Entry, Declaration, Stmt, block, evaluate, choose, choose_else, while_loop, do_loop, for_loop, switch, break, continue, give, Stmts, no_stmts, with_stmt, case, default, stmt, SwitchEntries, no_entries, with_entry, typedef, declaration, function, TranslationUnit}
+use Rattle.porch_tree.specs.Pieces.{Piece, mark as mark_piece, key as key_piece, expr_pieces, whole_pieces, optional_pieces, comma_pieces, initial_pieces, more_initials_pieces, begun_pieces, more_entries_pieces, entries_pieces, declarator_pieces, base_pieces, static_pieces, declaration_pieces, declarations_pieces, stmt_pieces, stmts_pieces, switch_pieces, unit_pieces}
+use Rattle.porch_tree.specs.Formed.{IsExpr, IsOptional, IsInitial, AreInitials, IsStart, AreEntries, IsDeclaration, AreDeclarations, IsBase, IsDeclarator, IsClosed, IsStmt, AreStmts, AreSwitchEntries, AreItems}
+use Rattle.porch_tree.specs.Names.{first_name, IsPlain, BeginsPlain, ReadsExpr, ReadsPerhaps, ReadsInitial, ReadsInitials, ReadsStart, ReadsEntries, ReadsDeclaration, ReadsDeclarations, ReadsBase, ReadsStmt, ReadsStmts, ReadsEntriesOf, ReadsNames, name_in}
 use Rattle.porch_walk.specs.declared.symbol.Mode.TheVariants as mode
-use Rattle.porch_walk.specs.declared.symbol.Naming.{Naming}
 use Rattle.porch_walk.specs.declared.symbol.Naming.TheVariants as naming
-use Rattle.porch_walk.specs.declared.symbol.Kinds.{Kinds}
 use Rattle.porch_walk.specs.declared.symbol.Symbol.{Symbol}
 use Rattle.porch_walk.specs.declared.symbol.Symbol.TheVariants.{Must, Operand, Commas, Optional, Base as Base_to_come, Declarator as Declarator_to_come, Entries, Entry as Entry_to_come, MoreEntries, Initial as Initial_to_come, MoreInitials, NextInitial, Consts, FileEntries, FirstEntry, EndTypedef, Body, Statements, Statement, Else, Cases}
-use Rattle.porch_walk.specs.Walk.{Stage, step, run_from, ends_here, is_over, is, is_key, heard, name_bytes, names_type, or_else, goes, base, base_key, base_of, operand, condition, declaration as declaration_stage, statement_key, statement_word, statement, behind}
+use Rattle.porch_walk.specs.Walk.{Stage, is_over, is_key, heard, name_bytes, names_type, goes, base_key, base_of, condition, declaration as declaration_stage, statement_key, statement_word, statement}
 use Rattle.porch_walk.proofs.Expressions.{never}
-use Rattle.porch_walk.proofs.Words.{same}
-use Rattle.porch_walk.proofs.Passes.{over, Heads, closes, ends, leaves, behind_base, starts, begins, begins_mark, begins_key, begins_base, closes_are_ends, skips, passes, decided, differs, at, FirstOf, expr_first, no_base, bytes_at, not_known}
-use Rattle.porch_walk.proofs.Accepts.{on, Runs, StartOf, expr_runs, base_run, declarator_run, optional_first, base_first, assigned, conditioned, declared_behind, must_tokens, some_first, base_there, declarator_first, pass_optional}
+use Rattle.porch_walk.proofs.Passes.{over, Heads, closes, ends, leaves, behind_base, starts, begins, begins_mark, begins_key, begins_base, skips, passes, differs, at, expr_first, bytes_at, not_known}
+use Rattle.porch_walk.proofs.Accepts.{on, StartOf, expr_runs, base_run, declarator_run, optional_first, base_first, assigned, conditioned, declared_behind, must_tokens, some_first, base_there, declarator_first, pass_optional}
 
 -- where a statement begins
 abbrev begins_stmt_key : Keyword → Bool

@@ -1,6 +1,6 @@
 -- A walk along the tokens of a text with what may still be to come: a list of symbols, the next one first.
 -- Between two items, and at the end of a function's block, the list is empty.
-use Rattle.std.specs.Prelude.{ℕ, ◌≡◌, ◌+◌, fold, Bool, true, false, ◌==◌, ◌&&◌, ◌||◌, if◌then◌else◌, List, [], ◌∷◌, map, Option, Some, None}
+use Rattle.std.specs.Prelude.{ℕ, ◌≡◌, ◌+◌, Bool, true, false, ◌==◌, ◌&&◌, ◌||◌, if◌then◌else◌, List, [], ◌∷◌, map, Option, Some, None}
 use Rattle.std.specs.Str.{bytes_eq}
 use Rattle.std.specs.List.{list_any}
 use Rattle.porch_tree.specs.declared.word.Keyword.{Keyword}

@@ -4,7 +4,7 @@ use Rattle.porch_tree.specs.declared.word.Word.{Word}
 use Rattle.porch_walk.specs.declared.symbol.Symbol.{Symbol}
 use Rattle.porch_walk.specs.declared.step.Turn.{Turn}
 use Rattle.porch_walk.specs.declared.step.Turn.TheVariants as turn
-use Rattle.porch_walk.specs.Walk.{Stage, Heard, goes, names_type, item, behind}
+use Rattle.porch_walk.specs.Walk.{Stage, Heard, goes, names_type, behind}
 
 abbrev pub upward : List Symbol → List Symbol
 upward = fold (λ above s. s ∷ above) []
