@@ -23,6 +23,8 @@ pub(crate) enum Turn {
     Declared,
     /// It took the brace of a function's block.
     Entered,
+    /// It took the brace that closes a function's block.
+    Left,
 }
 
 fn keyword(word: Keyword) -> u8

@@ -42,6 +42,8 @@ TurnedAt turn.LeftOut types fresh i bs o left ss = o ≡ left
 TurnedAt turn.Named types fresh i bs o left ss = o ≡ Some (record { types = types; fresh = bs; inside = i; pending = ss })
 TurnedAt turn.Declared types fresh i bs o left ss = o ≡ Some (record { types = fresh ∷ types; fresh = fresh; inside = i; pending = ss })
 TurnedAt turn.Entered types fresh i bs o left ss = o ≡ Some (record { types = types; fresh = fresh; inside = true; pending = ss })
+TurnedAt turn.Left types fresh i bs o left ss =
+    o ≡ Some (record { types = types; fresh = fresh; inside = false; pending = ss })
 
 -- for each name that is a typedef name, or for each that isn't
 abbrev pub Turned : Bool → List Symbol → Turn → Word → List Symbol → List Symbol → Type 0
@@ -64,3 +66,14 @@ abbrev pub Begun : Bool → Bool → Word → List Symbol → Type 0
 Begun known b w ss =
     (types : List (List ℕ)) (fresh : List ℕ) (bs : List ℕ) → names_type types bs ≡ known
     → TookAt b (behind types fresh false [] (heard_as w bs)) (goes types fresh false ss)
+
+-- nothing is pending where all of it was left out
+abbrev pub EmptyIf : Turn → List Symbol → Type 0
+EmptyIf turn.LeftOut ss = ss ≡ []
+EmptyIf t ss = Unit {0}
+
+-- The walk did with a word what it does in a block, or outside of every block.
+abbrev pub Moved : Bool → Bool → Turn → Word → List Symbol → List Symbol → Type 0
+Moved inside known t w old ss =
+    (types : List (List ℕ)) (fresh : List ℕ) (bs : List ℕ) → names_type types bs ≡ known
+    → TurnedAt t types fresh inside bs (behind types fresh inside old (heard_as w bs)) None ss
