@@ -1,0 +1,15 @@
+pub mod Accepts
+pub mod Completes
+pub mod Declarators
+pub mod Expressions
+pub mod First
+pub mod Joined
+pub mod Kept
+pub mod KindWords
+pub mod Meaning
+pub mod Passes
+pub mod Sound
+pub mod Tokens
+pub mod Units
+pub mod Upward
+pub mod Words

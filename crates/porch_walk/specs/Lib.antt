@@ -1,0 +1,6 @@
+-- a walk along tokens with what may still be to come
+pub mod Walk
+-- small texts
+pub mod Worked
+-- what single steps of the code do
+pub mod inside

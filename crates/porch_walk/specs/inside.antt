@@ -1,0 +1,2 @@
+-- what single steps of the code do
+pub mod Steps

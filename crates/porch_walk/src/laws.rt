@@ -1,0 +1,19 @@
+//! What holds of the walk over all lists of tokens. The functions are laws, and have nothing to run.
+
+ghost use Rattle.std.specs.Prelude.{◌≡◌, List};
+ghost use Rattle.porch_tree.specs.Pieces.{Spelled};
+ghost use Rattle.porch_tree.specs.Mirror.{TranslationUnit};
+ghost use Rattle.porch_tree.specs.Grammar.{IsDeepUnit};
+ghost use Rattle.porch_walk.specs.Walk.{start, wrong, Told, IsTaken};
+
+/// Where the walk finds nothing wrong, a unit has these tokens. A token that it names for `Syntax` is
+/// the first with which no unit goes on, or the end of what only begins one. One that it names for
+/// `Outside` is outside the language behind the beginning of a unit.
+pub fn what_is_wrong_is_told()
+    ensures { (ts : List Spelled) → Told ts (wrong 0 start ts) }
+{}
+
+/// The walk takes the tokens of each unit to their end.
+pub fn each_unit_is_taken()
+    ensures { (ts : List Spelled) (u : TranslationUnit) → IsDeepUnit ts u → IsTaken ts }
+{}

@@ -1,0 +1,15 @@
+//! The first wrong token of a source text: a walk along its tokens with what may still be to come,
+//! which builds no tree.
+//!
+//! `specs/Walk` has the walk as a definition, `laws` what it says of the units of the grammar, and
+//! `worked` some small texts. `symbol` has what may still be to come, `step` what each symbol does with
+//! a word, and `advance` what all that is pending does with one.
+#![tactic(auto)]
+
+mod advance;
+pub mod laws;
+mod step;
+pub mod symbol;
+pub mod worked;
+
+pub use symbol::{Kinds, Mode, Naming, Symbol};
