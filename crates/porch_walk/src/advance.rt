@@ -17,7 +17,8 @@ pub(crate) fn advance(
     known: bool,
 ) -> Result<Turn, AllocError>
     ensures empty { IfOk result (λ t. EmptyIf t (upward pending.new.items)) }
-    ensures turned { IfOk result (λ t. Advanced known t word (upward pending.old.items) (upward pending.new.items)) }
+    ensures turned { IfOk result
+        (λ t. Advanced known t word (upward pending.old.items) (upward pending.new.items)) }
 {
     while let Some(symbol) = next(pending) {
         match symbol_turn(pending, symbol, word, known)? {

@@ -204,7 +204,8 @@ pub(crate) fn next(pending: &mut Vec<Symbol>) -> Option<Symbol>
 }
 
 fn put_rest(pending: &mut Vec<Symbol>, mode: Mode) -> Result<(), AllocError>
-    ensures { IfOk result (λ _. upward pending.new.items ≡ rest_of mode (upward pending.old.items)) }
+    ensures { IfOk result
+        (λ _. upward pending.new.items ≡ rest_of mode (upward pending.old.items)) }
 {
     match mode {
         Mode::Assign => put(pending, &[Symbol::Behind(true)]),
@@ -214,7 +215,8 @@ fn put_rest(pending: &mut Vec<Symbol>, mode: Mode) -> Result<(), AllocError>
 }
 
 fn put_behind_type(pending: &mut Vec<Symbol>, mode: Mode) -> Result<(), AllocError>
-    ensures { IfOk result (λ _. upward pending.new.items ≡ behind_type mode (upward pending.old.items)) }
+    ensures { IfOk result
+        (λ _. upward pending.new.items ≡ behind_type mode (upward pending.old.items)) }
 {
     match mode {
         Mode::Assign | Mode::Cond => put(
@@ -397,9 +399,11 @@ fn must_turn(
     word: Word,
     known: bool,
 ) -> Result<Turn, AllocError>
-    ensures turned { IfOk result (λ t. Turned known (sym.Must wanted ∷ upward pending.old.items) t word
+    ensures turned { IfOk result
+        (λ t. Turned known (sym.Must wanted ∷ upward pending.old.items) t word
         (upward pending.old.items) (upward pending.new.items)) }
-    ensures untouched { IfOk result (λ t. Untouched t (upward pending.old.items) (upward pending.new.items)) }
+    ensures untouched { IfOk result
+        (λ t. Untouched t (upward pending.old.items) (upward pending.new.items)) }
 {
     if is(word, wanted) {
         Ok(Turn::Took)
@@ -411,7 +415,8 @@ fn must_turn(
 fn texts_turn(pending: &mut Vec<Symbol>, word: Word, known: bool) -> Result<Turn, AllocError>
     ensures turned { IfOk result (λ t. Turned known (sym.Texts ∷ upward pending.old.items) t word
         (upward pending.old.items) (upward pending.new.items)) }
-    ensures untouched { IfOk result (λ t. Untouched t (upward pending.old.items) (upward pending.new.items)) }
+    ensures untouched { IfOk result
+        (λ t. Untouched t (upward pending.old.items) (upward pending.new.items)) }
 {
     if is(word, Word::Text) {
         put(pending, &[Symbol::Texts])?;
@@ -424,7 +429,8 @@ fn texts_turn(pending: &mut Vec<Symbol>, word: Word, known: bool) -> Result<Turn
 fn suffixes_turn(pending: &mut Vec<Symbol>, word: Word, known: bool) -> Result<Turn, AllocError>
     ensures turned { IfOk result (λ t. Turned known (sym.Suffixes ∷ upward pending.old.items) t word
         (upward pending.old.items) (upward pending.new.items)) }
-    ensures untouched { IfOk result (λ t. Untouched t (upward pending.old.items) (upward pending.new.items)) }
+    ensures untouched { IfOk result
+        (λ t. Untouched t (upward pending.old.items) (upward pending.new.items)) }
 {
     match word {
         Word::Mark(Mark::OpenBracket) => {
@@ -474,9 +480,11 @@ fn behind_turn(
     word: Word,
     known: bool,
 ) -> Result<Turn, AllocError>
-    ensures turned { IfOk result (λ t. Turned known (sym.Behind unary ∷ upward pending.old.items) t word
+    ensures turned { IfOk result
+        (λ t. Turned known (sym.Behind unary ∷ upward pending.old.items) t word
         (upward pending.old.items) (upward pending.new.items)) }
-    ensures untouched { IfOk result (λ t. Untouched t (upward pending.old.items) (upward pending.new.items)) }
+    ensures untouched { IfOk result
+        (λ t. Untouched t (upward pending.old.items) (upward pending.new.items)) }
 {
     if infix(word) {
         put(
@@ -506,7 +514,8 @@ fn behind_turn(
 fn commas_turn(pending: &mut Vec<Symbol>, word: Word, known: bool) -> Result<Turn, AllocError>
     ensures turned { IfOk result (λ t. Turned known (sym.Commas ∷ upward pending.old.items) t word
         (upward pending.old.items) (upward pending.new.items)) }
-    ensures untouched { IfOk result (λ t. Untouched t (upward pending.old.items) (upward pending.new.items)) }
+    ensures untouched { IfOk result
+        (λ t. Untouched t (upward pending.old.items) (upward pending.new.items)) }
 {
     if is(word, Word::Mark(Mark::Comma)) {
         put(pending, &[Symbol::Commas, Symbol::Operand(Mode::Assign)])?;
@@ -522,9 +531,11 @@ fn operand_turn(
     word: Word,
     known: bool,
 ) -> Result<Turn, AllocError>
-    ensures turned { IfOk result (λ t. Turned known (sym.Operand mode ∷ upward pending.old.items) t word
+    ensures turned { IfOk result
+        (λ t. Turned known (sym.Operand mode ∷ upward pending.old.items) t word
         (upward pending.old.items) (upward pending.new.items)) }
-    ensures untouched { IfOk result (λ t. Untouched t (upward pending.old.items) (upward pending.new.items)) }
+    ensures untouched { IfOk result
+        (λ t. Untouched t (upward pending.old.items) (upward pending.new.items)) }
 {
     if begin_operand(pending, &[], &[], mode, word)? {
         Ok(Turn::Took)
@@ -536,7 +547,8 @@ fn operand_turn(
 fn optional_turn(pending: &mut Vec<Symbol>, word: Word, known: bool) -> Result<Turn, AllocError>
     ensures turned { IfOk result (λ t. Turned known (sym.Optional ∷ upward pending.old.items) t word
         (upward pending.old.items) (upward pending.new.items)) }
-    ensures untouched { IfOk result (λ t. Untouched t (upward pending.old.items) (upward pending.new.items)) }
+    ensures untouched { IfOk result
+        (λ t. Untouched t (upward pending.old.items) (upward pending.new.items)) }
 {
     if begin_operand(pending, &[], &[Symbol::Commas], Mode::Assign, word)? {
         Ok(Turn::Took)
@@ -570,9 +582,11 @@ fn open_turn(
     word: Word,
     known: bool,
 ) -> Result<Turn, AllocError>
-    ensures turned { IfOk result (λ t. Turned known (sym.Open mode ∷ upward pending.old.items) t word
+    ensures turned { IfOk result
+        (λ t. Turned known (sym.Open mode ∷ upward pending.old.items) t word
         (upward pending.old.items) (upward pending.new.items)) }
-    ensures untouched { IfOk result (λ t. Untouched t (upward pending.old.items) (upward pending.new.items)) }
+    ensures untouched { IfOk result
+        (λ t. Untouched t (upward pending.old.items) (upward pending.new.items)) }
 {
     if takes(mode) {
         match base_symbol(word, known) {
@@ -606,7 +620,8 @@ fn open_turn(
 fn base_turn(pending: &mut Vec<Symbol>, word: Word, known: bool) -> Result<Turn, AllocError>
     ensures turned { IfOk result (λ t. Turned known (sym.Base ∷ upward pending.old.items) t word
         (upward pending.old.items) (upward pending.new.items)) }
-    ensures untouched { IfOk result (λ t. Untouched t (upward pending.old.items) (upward pending.new.items)) }
+    ensures untouched { IfOk result
+        (λ t. Untouched t (upward pending.old.items) (upward pending.new.items)) }
 {
     match base_symbol(word, known) {
         Some(symbol) => {
@@ -623,9 +638,11 @@ fn kind_turn(
     word: Word,
     known: bool,
 ) -> Result<Turn, AllocError>
-    ensures turned { IfOk result (λ t. Turned known (sym.Kind seen ∷ upward pending.old.items) t word
+    ensures turned { IfOk result
+        (λ t. Turned known (sym.Kind seen ∷ upward pending.old.items) t word
         (upward pending.old.items) (upward pending.new.items)) }
-    ensures untouched { IfOk result (λ t. Untouched t (upward pending.old.items) (upward pending.new.items)) }
+    ensures untouched { IfOk result
+        (λ t. Untouched t (upward pending.old.items) (upward pending.new.items)) }
 {
     match kinds_with(seen, word) {
         Some(kinds) => {
@@ -639,7 +656,8 @@ fn kind_turn(
 fn consts_turn(pending: &mut Vec<Symbol>, word: Word, known: bool) -> Result<Turn, AllocError>
     ensures turned { IfOk result (λ t. Turned known (sym.Consts ∷ upward pending.old.items) t word
         (upward pending.old.items) (upward pending.new.items)) }
-    ensures untouched { IfOk result (λ t. Untouched t (upward pending.old.items) (upward pending.new.items)) }
+    ensures untouched { IfOk result
+        (λ t. Untouched t (upward pending.old.items) (upward pending.new.items)) }
 {
     if is(word, Word::Key(Keyword::Const)) {
         put(pending, &[Symbol::Consts])?;
@@ -650,7 +668,8 @@ fn consts_turn(pending: &mut Vec<Symbol>, word: Word, known: bool) -> Result<Tur
 }
 
 fn put_contents(pending: &mut Vec<Symbol>, sort: TagSort) -> Result<(), AllocError>
-    ensures { IfOk result (λ _. upward pending.new.items ≡ contents sort (upward pending.old.items)) }
+    ensures { IfOk result
+        (λ _. upward pending.new.items ≡ contents sort (upward pending.old.items)) }
 {
     match sort {
         TagSort::Struct => put(
@@ -683,7 +702,8 @@ fn tag_turn(
 ) -> Result<Turn, AllocError>
     ensures turned { IfOk result (λ t. Turned known (sym.Tag sort ∷ upward pending.old.items) t word
         (upward pending.old.items) (upward pending.new.items)) }
-    ensures untouched { IfOk result (λ t. Untouched t (upward pending.old.items) (upward pending.new.items)) }
+    ensures untouched { IfOk result
+        (λ t. Untouched t (upward pending.old.items) (upward pending.new.items)) }
 {
     if is(word, Word::Name) {
         put(pending, &[Symbol::TagBody(sort)])?;
@@ -702,9 +722,11 @@ fn tag_body_turn(
     word: Word,
     known: bool,
 ) -> Result<Turn, AllocError>
-    ensures turned { IfOk result (λ t. Turned known (sym.TagBody sort ∷ upward pending.old.items) t word
+    ensures turned { IfOk result
+        (λ t. Turned known (sym.TagBody sort ∷ upward pending.old.items) t word
         (upward pending.old.items) (upward pending.new.items)) }
-    ensures untouched { IfOk result (λ t. Untouched t (upward pending.old.items) (upward pending.new.items)) }
+    ensures untouched { IfOk result
+        (λ t. Untouched t (upward pending.old.items) (upward pending.new.items)) }
 {
     if is(word, Word::Mark(Mark::OpenBrace)) {
         put_contents(pending, sort)?;
@@ -720,7 +742,8 @@ fn tag_body_turn(
 fn fields_turn(pending: &mut Vec<Symbol>, word: Word, known: bool) -> Result<Turn, AllocError>
     ensures turned { IfOk result (λ t. Turned known (sym.Fields ∷ upward pending.old.items) t word
         (upward pending.old.items) (upward pending.new.items)) }
-    ensures untouched { IfOk result (λ t. Untouched t (upward pending.old.items) (upward pending.new.items)) }
+    ensures untouched { IfOk result
+        (λ t. Untouched t (upward pending.old.items) (upward pending.new.items)) }
 {
     if is(word, Word::Mark(Mark::CloseBrace)) {
         Ok(Turn::Took)
@@ -748,9 +771,11 @@ fn more_declarators_turn(
     word: Word,
     known: bool,
 ) -> Result<Turn, AllocError>
-    ensures turned { IfOk result (λ t. Turned known (sym.MoreDeclarators ∷ upward pending.old.items) t word
+    ensures turned { IfOk result
+        (λ t. Turned known (sym.MoreDeclarators ∷ upward pending.old.items) t word
         (upward pending.old.items) (upward pending.new.items)) }
-    ensures untouched { IfOk result (λ t. Untouched t (upward pending.old.items) (upward pending.new.items)) }
+    ensures untouched { IfOk result
+        (λ t. Untouched t (upward pending.old.items) (upward pending.new.items)) }
 {
     if is(word, Word::Mark(Mark::Comma)) {
         put(
@@ -770,9 +795,11 @@ fn constant_value_turn(
     word: Word,
     known: bool,
 ) -> Result<Turn, AllocError>
-    ensures turned { IfOk result (λ t. Turned known (sym.ConstantValue ∷ upward pending.old.items) t word
+    ensures turned { IfOk result
+        (λ t. Turned known (sym.ConstantValue ∷ upward pending.old.items) t word
         (upward pending.old.items) (upward pending.new.items)) }
-    ensures untouched { IfOk result (λ t. Untouched t (upward pending.old.items) (upward pending.new.items)) }
+    ensures untouched { IfOk result
+        (λ t. Untouched t (upward pending.old.items) (upward pending.new.items)) }
 {
     if is(word, Word::Mark(Mark::Equal)) {
         put(pending, &[Symbol::Operand(Mode::Cond)])?;
@@ -783,9 +810,11 @@ fn constant_value_turn(
 }
 
 fn constants_turn(pending: &mut Vec<Symbol>, word: Word, known: bool) -> Result<Turn, AllocError>
-    ensures turned { IfOk result (λ t. Turned known (sym.Constants ∷ upward pending.old.items) t word
+    ensures turned { IfOk result
+        (λ t. Turned known (sym.Constants ∷ upward pending.old.items) t word
         (upward pending.old.items) (upward pending.new.items)) }
-    ensures untouched { IfOk result (λ t. Untouched t (upward pending.old.items) (upward pending.new.items)) }
+    ensures untouched { IfOk result
+        (λ t. Untouched t (upward pending.old.items) (upward pending.new.items)) }
 {
     if is(word, Word::Mark(Mark::Comma)) {
         put(
@@ -807,7 +836,8 @@ fn constants_turn(pending: &mut Vec<Symbol>, word: Word, known: bool) -> Result<
 fn brackets_turn(pending: &mut Vec<Symbol>, word: Word, known: bool) -> Result<Turn, AllocError>
     ensures turned { IfOk result (λ t. Turned known (sym.Brackets ∷ upward pending.old.items) t word
         (upward pending.old.items) (upward pending.new.items)) }
-    ensures untouched { IfOk result (λ t. Untouched t (upward pending.old.items) (upward pending.new.items)) }
+    ensures untouched { IfOk result
+        (λ t. Untouched t (upward pending.old.items) (upward pending.new.items)) }
 {
     if is(word, Word::Mark(Mark::OpenBracket)) {
         put(pending, &[Symbol::Brackets, Symbol::Count])?;
@@ -823,7 +853,8 @@ fn brackets_turn(pending: &mut Vec<Symbol>, word: Word, known: bool) -> Result<T
 fn counts_turn(pending: &mut Vec<Symbol>, word: Word, known: bool) -> Result<Turn, AllocError>
     ensures turned { IfOk result (λ t. Turned known (sym.Counts ∷ upward pending.old.items) t word
         (upward pending.old.items) (upward pending.new.items)) }
-    ensures untouched { IfOk result (λ t. Untouched t (upward pending.old.items) (upward pending.new.items)) }
+    ensures untouched { IfOk result
+        (λ t. Untouched t (upward pending.old.items) (upward pending.new.items)) }
 {
     if is(word, Word::Mark(Mark::OpenBracket)) {
         put(pending, &[Symbol::Counts, Symbol::Count])?;
@@ -836,7 +867,8 @@ fn counts_turn(pending: &mut Vec<Symbol>, word: Word, known: bool) -> Result<Tur
 fn count_turn(pending: &mut Vec<Symbol>, word: Word, known: bool) -> Result<Turn, AllocError>
     ensures turned { IfOk result (λ t. Turned known (sym.Count ∷ upward pending.old.items) t word
         (upward pending.old.items) (upward pending.new.items)) }
-    ensures untouched { IfOk result (λ t. Untouched t (upward pending.old.items) (upward pending.new.items)) }
+    ensures untouched { IfOk result
+        (λ t. Untouched t (upward pending.old.items) (upward pending.new.items)) }
 {
     if is(word, Word::Mark(Mark::CloseBracket)) {
         Ok(Turn::Took)
@@ -858,9 +890,11 @@ fn more_parameters_turn(
     word: Word,
     known: bool,
 ) -> Result<Turn, AllocError>
-    ensures turned { IfOk result (λ t. Turned known (sym.MoreParameters ∷ upward pending.old.items) t word
+    ensures turned { IfOk result
+        (λ t. Turned known (sym.MoreParameters ∷ upward pending.old.items) t word
         (upward pending.old.items) (upward pending.new.items)) }
-    ensures untouched { IfOk result (λ t. Untouched t (upward pending.old.items) (upward pending.new.items)) }
+    ensures untouched { IfOk result
+        (λ t. Untouched t (upward pending.old.items) (upward pending.new.items)) }
 {
     if is(word, Word::Mark(Mark::Comma)) {
         put(
@@ -880,9 +914,11 @@ fn more_parameters_turn(
 }
 
 fn more_entries_turn(pending: &mut Vec<Symbol>, word: Word, known: bool) -> Result<Turn, AllocError>
-    ensures turned { IfOk result (λ t. Turned known (sym.MoreEntries ∷ upward pending.old.items) t word
+    ensures turned { IfOk result
+        (λ t. Turned known (sym.MoreEntries ∷ upward pending.old.items) t word
         (upward pending.old.items) (upward pending.new.items)) }
-    ensures untouched { IfOk result (λ t. Untouched t (upward pending.old.items) (upward pending.new.items)) }
+    ensures untouched { IfOk result
+        (λ t. Untouched t (upward pending.old.items) (upward pending.new.items)) }
 {
     if is(word, Word::Mark(Mark::Comma)) {
         put(pending, &[Symbol::Entry, Symbol::Declarator(Naming::Must)])?;
@@ -897,7 +933,8 @@ fn more_entries_turn(pending: &mut Vec<Symbol>, word: Word, known: bool) -> Resu
 fn entry_turn(pending: &mut Vec<Symbol>, word: Word, known: bool) -> Result<Turn, AllocError>
     ensures turned { IfOk result (λ t. Turned known (sym.Entry ∷ upward pending.old.items) t word
         (upward pending.old.items) (upward pending.new.items)) }
-    ensures untouched { IfOk result (λ t. Untouched t (upward pending.old.items) (upward pending.new.items)) }
+    ensures untouched { IfOk result
+        (λ t. Untouched t (upward pending.old.items) (upward pending.new.items)) }
 {
     if is(word, Word::Mark(Mark::Equal)) {
         put(pending, &[Symbol::MoreEntries, Symbol::Initial])?;
@@ -910,7 +947,8 @@ fn entry_turn(pending: &mut Vec<Symbol>, word: Word, known: bool) -> Result<Turn
 fn initial_turn(pending: &mut Vec<Symbol>, word: Word, known: bool) -> Result<Turn, AllocError>
     ensures turned { IfOk result (λ t. Turned known (sym.Initial ∷ upward pending.old.items) t word
         (upward pending.old.items) (upward pending.new.items)) }
-    ensures untouched { IfOk result (λ t. Untouched t (upward pending.old.items) (upward pending.new.items)) }
+    ensures untouched { IfOk result
+        (λ t. Untouched t (upward pending.old.items) (upward pending.new.items)) }
 {
     if is(word, Word::Mark(Mark::OpenBrace)) {
         put(pending, &[Symbol::MoreInitials, Symbol::Initial])?;
@@ -927,9 +965,11 @@ fn more_initials_turn(
     word: Word,
     known: bool,
 ) -> Result<Turn, AllocError>
-    ensures turned { IfOk result (λ t. Turned known (sym.MoreInitials ∷ upward pending.old.items) t word
+    ensures turned { IfOk result
+        (λ t. Turned known (sym.MoreInitials ∷ upward pending.old.items) t word
         (upward pending.old.items) (upward pending.new.items)) }
-    ensures untouched { IfOk result (λ t. Untouched t (upward pending.old.items) (upward pending.new.items)) }
+    ensures untouched { IfOk result
+        (λ t. Untouched t (upward pending.old.items) (upward pending.new.items)) }
 {
     if is(word, Word::Mark(Mark::Comma)) {
         put(pending, &[Symbol::NextInitial])?;
@@ -942,9 +982,11 @@ fn more_initials_turn(
 }
 
 fn next_initial_turn(pending: &mut Vec<Symbol>, word: Word, known: bool) -> Result<Turn, AllocError>
-    ensures turned { IfOk result (λ t. Turned known (sym.NextInitial ∷ upward pending.old.items) t word
+    ensures turned { IfOk result
+        (λ t. Turned known (sym.NextInitial ∷ upward pending.old.items) t word
         (upward pending.old.items) (upward pending.new.items)) }
-    ensures untouched { IfOk result (λ t. Untouched t (upward pending.old.items) (upward pending.new.items)) }
+    ensures untouched { IfOk result
+        (λ t. Untouched t (upward pending.old.items) (upward pending.new.items)) }
 {
     if is(word, Word::Mark(Mark::CloseBrace)) {
         Ok(Turn::Took)
@@ -962,9 +1004,11 @@ fn next_initial_turn(pending: &mut Vec<Symbol>, word: Word, known: bool) -> Resu
 }
 
 fn end_typedef_turn(pending: &mut Vec<Symbol>, word: Word, known: bool) -> Result<Turn, AllocError>
-    ensures turned { IfOk result (λ t. Turned known (sym.EndTypedef ∷ upward pending.old.items) t word
+    ensures turned { IfOk result
+        (λ t. Turned known (sym.EndTypedef ∷ upward pending.old.items) t word
         (upward pending.old.items) (upward pending.new.items)) }
-    ensures untouched { IfOk result (λ t. Untouched t (upward pending.old.items) (upward pending.new.items)) }
+    ensures untouched { IfOk result
+        (λ t. Untouched t (upward pending.old.items) (upward pending.new.items)) }
 {
     if is(word, Word::Mark(Mark::Semicolon)) {
         Ok(Turn::Declared)
@@ -974,9 +1018,11 @@ fn end_typedef_turn(pending: &mut Vec<Symbol>, word: Word, known: bool) -> Resul
 }
 
 fn first_entry_turn(pending: &mut Vec<Symbol>, word: Word, known: bool) -> Result<Turn, AllocError>
-    ensures turned { IfOk result (λ t. Turned known (sym.FirstEntry ∷ upward pending.old.items) t word
+    ensures turned { IfOk result
+        (λ t. Turned known (sym.FirstEntry ∷ upward pending.old.items) t word
         (upward pending.old.items) (upward pending.new.items)) }
-    ensures untouched { IfOk result (λ t. Untouched t (upward pending.old.items) (upward pending.new.items)) }
+    ensures untouched { IfOk result
+        (λ t. Untouched t (upward pending.old.items) (upward pending.new.items)) }
 {
     if is(word, Word::Mark(Mark::OpenBrace)) {
         put(pending, &[Symbol::Body])?;
@@ -989,7 +1035,8 @@ fn first_entry_turn(pending: &mut Vec<Symbol>, word: Word, known: bool) -> Resul
 fn else_turn(pending: &mut Vec<Symbol>, word: Word, known: bool) -> Result<Turn, AllocError>
     ensures turned { IfOk result (λ t. Turned known (sym.Else ∷ upward pending.old.items) t word
         (upward pending.old.items) (upward pending.new.items)) }
-    ensures untouched { IfOk result (λ t. Untouched t (upward pending.old.items) (upward pending.new.items)) }
+    ensures untouched { IfOk result
+        (λ t. Untouched t (upward pending.old.items) (upward pending.new.items)) }
 {
     if is(word, Word::Key(Keyword::Else)) {
         put(pending, &[Symbol::Statement])?;
@@ -1000,9 +1047,11 @@ fn else_turn(pending: &mut Vec<Symbol>, word: Word, known: bool) -> Result<Turn,
 }
 
 fn named_turn(pending: &mut Vec<Symbol>, word: Word, known: bool) -> Result<Turn, AllocError>
-    ensures turned { IfOk result (λ t. Turned known (sym.Declarator naming.Must ∷ upward pending.old.items) t word
+    ensures turned { IfOk result
+        (λ t. Turned known (sym.Declarator naming.Must ∷ upward pending.old.items) t word
         (upward pending.old.items) (upward pending.new.items)) }
-    ensures untouched { IfOk result (λ t. Untouched t (upward pending.old.items) (upward pending.new.items)) }
+    ensures untouched { IfOk result
+        (λ t. Untouched t (upward pending.old.items) (upward pending.new.items)) }
 {
     if is(word, Word::Mark(Mark::Star)) {
         put(pending, &[Symbol::Pointer(Naming::Must)])?;
@@ -1026,9 +1075,11 @@ fn named_turn(pending: &mut Vec<Symbol>, word: Word, known: bool) -> Result<Turn
 }
 
 fn typedef_turn(pending: &mut Vec<Symbol>, word: Word, known: bool) -> Result<Turn, AllocError>
-    ensures turned { IfOk result (λ t. Turned known (sym.Declarator naming.Typedef ∷ upward pending.old.items) t word
+    ensures turned { IfOk result
+        (λ t. Turned known (sym.Declarator naming.Typedef ∷ upward pending.old.items) t word
         (upward pending.old.items) (upward pending.new.items)) }
-    ensures untouched { IfOk result (λ t. Untouched t (upward pending.old.items) (upward pending.new.items)) }
+    ensures untouched { IfOk result
+        (λ t. Untouched t (upward pending.old.items) (upward pending.new.items)) }
 {
     if is(word, Word::Mark(Mark::Star)) {
         put(pending, &[Symbol::Pointer(Naming::Typedef)])?;
@@ -1052,9 +1103,11 @@ fn typedef_turn(pending: &mut Vec<Symbol>, word: Word, known: bool) -> Result<Tu
 }
 
 fn parameter_turn(pending: &mut Vec<Symbol>, word: Word, known: bool) -> Result<Turn, AllocError>
-    ensures turned { IfOk result (λ t. Turned known (sym.Declarator naming.May ∷ upward pending.old.items) t word
+    ensures turned { IfOk result
+        (λ t. Turned known (sym.Declarator naming.May ∷ upward pending.old.items) t word
         (upward pending.old.items) (upward pending.new.items)) }
-    ensures untouched { IfOk result (λ t. Untouched t (upward pending.old.items) (upward pending.new.items)) }
+    ensures untouched { IfOk result
+        (λ t. Untouched t (upward pending.old.items) (upward pending.new.items)) }
 {
     if is(word, Word::Mark(Mark::Star)) {
         put(pending, &[Symbol::Pointer(Naming::May)])?;
@@ -1074,9 +1127,11 @@ fn parameter_turn(pending: &mut Vec<Symbol>, word: Word, known: bool) -> Result<
 }
 
 fn abstract_turn(pending: &mut Vec<Symbol>, word: Word, known: bool) -> Result<Turn, AllocError>
-    ensures turned { IfOk result (λ t. Turned known (sym.Declarator naming.Abstract ∷ upward pending.old.items) t word
+    ensures turned { IfOk result
+        (λ t. Turned known (sym.Declarator naming.Abstract ∷ upward pending.old.items) t word
         (upward pending.old.items) (upward pending.new.items)) }
-    ensures untouched { IfOk result (λ t. Untouched t (upward pending.old.items) (upward pending.new.items)) }
+    ensures untouched { IfOk result
+        (λ t. Untouched t (upward pending.old.items) (upward pending.new.items)) }
 {
     if is(word, Word::Mark(Mark::Star)) {
         put(pending, &[Symbol::Pointer(Naming::Abstract)])?;
@@ -1095,9 +1150,11 @@ fn declarator_turn(
     word: Word,
     known: bool,
 ) -> Result<Turn, AllocError>
-    ensures turned { IfOk result (λ t. Turned known (sym.Declarator naming ∷ upward pending.old.items) t word
+    ensures turned { IfOk result
+        (λ t. Turned known (sym.Declarator naming ∷ upward pending.old.items) t word
         (upward pending.old.items) (upward pending.new.items)) }
-    ensures untouched { IfOk result (λ t. Untouched t (upward pending.old.items) (upward pending.new.items)) }
+    ensures untouched { IfOk result
+        (λ t. Untouched t (upward pending.old.items) (upward pending.new.items)) }
 {
     match naming {
         Naming::Must => named_turn(pending, word, known),
@@ -1113,9 +1170,11 @@ fn pointer_turn(
     word: Word,
     known: bool,
 ) -> Result<Turn, AllocError>
-    ensures turned { IfOk result (λ t. Turned known (sym.Pointer naming ∷ upward pending.old.items) t word
+    ensures turned { IfOk result
+        (λ t. Turned known (sym.Pointer naming ∷ upward pending.old.items) t word
         (upward pending.old.items) (upward pending.new.items)) }
-    ensures untouched { IfOk result (λ t. Untouched t (upward pending.old.items) (upward pending.new.items)) }
+    ensures untouched { IfOk result
+        (λ t. Untouched t (upward pending.old.items) (upward pending.new.items)) }
 {
     if is(word, Word::Key(Keyword::Const)) {
         put(pending, &[Symbol::Pointer(naming)])?;
@@ -1128,7 +1187,8 @@ fn pointer_turn(
 fn nameless_turn(pending: &mut Vec<Symbol>, word: Word, known: bool) -> Result<Turn, AllocError>
     ensures turned { IfOk result (λ t. Turned known (sym.Nameless ∷ upward pending.old.items) t word
         (upward pending.old.items) (upward pending.new.items)) }
-    ensures untouched { IfOk result (λ t. Untouched t (upward pending.old.items) (upward pending.new.items)) }
+    ensures untouched { IfOk result
+        (λ t. Untouched t (upward pending.old.items) (upward pending.new.items)) }
 {
     if is(word, Word::Mark(Mark::CloseParenthesis)) {
         put(pending, &[Symbol::Brackets])?;
@@ -1201,9 +1261,11 @@ fn nameless_turn(pending: &mut Vec<Symbol>, word: Word, known: bool) -> Result<T
 }
 
 fn parameters_turn(pending: &mut Vec<Symbol>, word: Word, known: bool) -> Result<Turn, AllocError>
-    ensures turned { IfOk result (λ t. Turned known (sym.Parameters ∷ upward pending.old.items) t word
+    ensures turned { IfOk result
+        (λ t. Turned known (sym.Parameters ∷ upward pending.old.items) t word
         (upward pending.old.items) (upward pending.new.items)) }
-    ensures untouched { IfOk result (λ t. Untouched t (upward pending.old.items) (upward pending.new.items)) }
+    ensures untouched { IfOk result
+        (λ t. Untouched t (upward pending.old.items) (upward pending.new.items)) }
 {
     if is(word, Word::Mark(Mark::CloseParenthesis)) {
         Ok(Turn::Took)
@@ -1231,7 +1293,8 @@ fn parameters_turn(pending: &mut Vec<Symbol>, word: Word, known: bool) -> Result
 fn void_turn(pending: &mut Vec<Symbol>, word: Word, known: bool) -> Result<Turn, AllocError>
     ensures turned { IfOk result (λ t. Turned known (sym.Void ∷ upward pending.old.items) t word
         (upward pending.old.items) (upward pending.new.items)) }
-    ensures untouched { IfOk result (λ t. Untouched t (upward pending.old.items) (upward pending.new.items)) }
+    ensures untouched { IfOk result
+        (λ t. Untouched t (upward pending.old.items) (upward pending.new.items)) }
 {
     if is(word, Word::Mark(Mark::CloseParenthesis)) {
         Ok(Turn::Took)
@@ -1271,7 +1334,8 @@ fn void_turn(pending: &mut Vec<Symbol>, word: Word, known: bool) -> Result<Turn,
 fn entries_turn(pending: &mut Vec<Symbol>, word: Word, known: bool) -> Result<Turn, AllocError>
     ensures turned { IfOk result (λ t. Turned known (sym.Entries ∷ upward pending.old.items) t word
         (upward pending.old.items) (upward pending.new.items)) }
-    ensures untouched { IfOk result (λ t. Untouched t (upward pending.old.items) (upward pending.new.items)) }
+    ensures untouched { IfOk result
+        (λ t. Untouched t (upward pending.old.items) (upward pending.new.items)) }
 {
     if is(word, Word::Mark(Mark::Semicolon)) {
         Ok(Turn::Took)
@@ -1298,9 +1362,11 @@ fn entries_turn(pending: &mut Vec<Symbol>, word: Word, known: bool) -> Result<Tu
 }
 
 fn file_entries_turn(pending: &mut Vec<Symbol>, word: Word, known: bool) -> Result<Turn, AllocError>
-    ensures turned { IfOk result (λ t. Turned known (sym.FileEntries ∷ upward pending.old.items) t word
+    ensures turned { IfOk result
+        (λ t. Turned known (sym.FileEntries ∷ upward pending.old.items) t word
         (upward pending.old.items) (upward pending.new.items)) }
-    ensures untouched { IfOk result (λ t. Untouched t (upward pending.old.items) (upward pending.new.items)) }
+    ensures untouched { IfOk result
+        (λ t. Untouched t (upward pending.old.items) (upward pending.new.items)) }
 {
     if is(word, Word::Mark(Mark::Semicolon)) {
         Ok(Turn::Took)
@@ -1455,9 +1521,11 @@ fn begin_statement(
 }
 
 fn statement_turn(pending: &mut Vec<Symbol>, word: Word, known: bool) -> Result<Turn, AllocError>
-    ensures turned { IfOk result (λ t. Turned known (sym.Statement ∷ upward pending.old.items) t word
+    ensures turned { IfOk result
+        (λ t. Turned known (sym.Statement ∷ upward pending.old.items) t word
         (upward pending.old.items) (upward pending.new.items)) }
-    ensures untouched { IfOk result (λ t. Untouched t (upward pending.old.items) (upward pending.new.items)) }
+    ensures untouched { IfOk result
+        (λ t. Untouched t (upward pending.old.items) (upward pending.new.items)) }
 {
     if begin_statement(pending, &[], word)? {
         Ok(Turn::Took)
@@ -1467,9 +1535,11 @@ fn statement_turn(pending: &mut Vec<Symbol>, word: Word, known: bool) -> Result<
 }
 
 fn statements_turn(pending: &mut Vec<Symbol>, word: Word, known: bool) -> Result<Turn, AllocError>
-    ensures turned { IfOk result (λ t. Turned known (sym.Statements ∷ upward pending.old.items) t word
+    ensures turned { IfOk result
+        (λ t. Turned known (sym.Statements ∷ upward pending.old.items) t word
         (upward pending.old.items) (upward pending.new.items)) }
-    ensures untouched { IfOk result (λ t. Untouched t (upward pending.old.items) (upward pending.new.items)) }
+    ensures untouched { IfOk result
+        (λ t. Untouched t (upward pending.old.items) (upward pending.new.items)) }
 {
     if begin_statement(pending, &[Symbol::Statements], word)? {
         Ok(Turn::Took)
@@ -1481,7 +1551,8 @@ fn statements_turn(pending: &mut Vec<Symbol>, word: Word, known: bool) -> Result
 fn cases_turn(pending: &mut Vec<Symbol>, word: Word, known: bool) -> Result<Turn, AllocError>
     ensures turned { IfOk result (λ t. Turned known (sym.Cases ∷ upward pending.old.items) t word
         (upward pending.old.items) (upward pending.new.items)) }
-    ensures untouched { IfOk result (λ t. Untouched t (upward pending.old.items) (upward pending.new.items)) }
+    ensures untouched { IfOk result
+        (λ t. Untouched t (upward pending.old.items) (upward pending.new.items)) }
 {
     if is(word, Word::Key(Keyword::Case)) {
         put(
@@ -1511,7 +1582,8 @@ fn cases_turn(pending: &mut Vec<Symbol>, word: Word, known: bool) -> Result<Turn
 fn body_turn(pending: &mut Vec<Symbol>, word: Word, known: bool) -> Result<Turn, AllocError>
     ensures turned { IfOk result (λ t. Turned known (sym.Body ∷ upward pending.old.items) t word
         (upward pending.old.items) (upward pending.new.items)) }
-    ensures untouched { IfOk result (λ t. Untouched t (upward pending.old.items) (upward pending.new.items)) }
+    ensures untouched { IfOk result
+        (λ t. Untouched t (upward pending.old.items) (upward pending.new.items)) }
 {
     if is(word, Word::Key(Keyword::Static)) {
         put(pending, &[Symbol::Body, Symbol::Entries, Symbol::Base])?;
@@ -1542,7 +1614,8 @@ pub(crate) fn symbol_turn(
 ) -> Result<Turn, AllocError>
     ensures turned { IfOk result (λ t. Turned known (symbol ∷ upward pending.old.items) t word
         (upward pending.old.items) (upward pending.new.items)) }
-    ensures untouched { IfOk result (λ t. Untouched t (upward pending.old.items) (upward pending.new.items)) }
+    ensures untouched { IfOk result
+        (λ t. Untouched t (upward pending.old.items) (upward pending.new.items)) }
 {
     match symbol {
         Symbol::Must(wanted) => must_turn(pending, wanted, word, known),
