@@ -9,7 +9,7 @@ use Rattle.porch_types.specs.declared.shapes.Ty.TheVariants.{Whole, Pointer, Arr
 use Rattle.porch_types.specs.Leaves.{leaves_of}
 use Rattle.porch_values.specs.declared.acts.Act.{Act}
 use Rattle.porch_values.specs.Integers.{applied, converted, complemented}
-use Rattle.porch_objects.specs.Store.{Value, number, null, pointer, past, indeterminate, left, reached_one}
+use Rattle.porch_objects.specs.Store.{Value, number, null, pointer, past, indeterminate, left, reached_one, forgotten, variable_home}
 use Rattle.porch_objects.specs.Pointers as pointers
 use Rattle.porch_objects.specs.Meaning.{Environment, Ending, Ended, Met, Paused}
 use Rattle.porch_flat.specs.declared.flat.Operand.{Operand}
@@ -186,7 +186,7 @@ module _ (flat : Flat) (under : Environment) (n : ℕ) where
             if_done (pointers.store here.store (variable_of p here) (operand_of flat (pointed (type_at flat (var_type flat (frame_at place) p))) o here)) _ (λ store. goes_on (with_store here store) refl)
         led_on (form.copy p q) h g =
             if_done (pointers.copy (leaves_of flat.types (pointee_in flat (frame_at place) p)) here.store (variable_of p here) (variable_of q here)) _ (λ store. goes_on (with_store here store) refl)
-        led_on (form.kill v) h g = goes_on (put v indeterminate here) refl
+        led_on (form.kill v) h g = goes_on (with_store here (forgotten here.store (variable_home here.store v))) refl
         led_on (form.allocate zeros v o) h g =
             if_counted (operand_of flat None o here) _ (λ z.
             if_done (pointers.allocate flat.types (pointee_in flat (frame_at place) v) zeros z here.store) _

@@ -8,7 +8,7 @@ use Rattle.porch_types.specs.declared.shapes.Ty.TheVariants.{Whole, Pointer, Arr
 use Rattle.porch_types.specs.Leaves.{leaves_of}
 use Rattle.porch_values.specs.declared.acts.Act.{Act}
 use Rattle.porch_values.specs.Integers.{applied, converted, complemented}
-use Rattle.porch_objects.specs.Store.{Value, number, null, pointer, past, indeterminate, left, reached_one, entered}
+use Rattle.porch_objects.specs.Store.{Value, number, null, pointer, past, indeterminate, left, reached_one, entered, forgotten, variable_home}
 use Rattle.porch_objects.specs.Pointers as pointers
 use Rattle.porch_objects.specs.Meaning.{Environment}
 use Rattle.porch_flat.specs.declared.flat.Operand.{Operand}
@@ -293,7 +293,7 @@ module _ (flat : Flat) where
       both_do (form.copy p q) j =
           both_done (pointers.copy (leaves_of flat.types (pointee_in flat (at next) p)) s.store (variable_of p s) (variable_of q s)) (pointers.copy (leaves_of flat.types (pointee_in made (at there) p)) s.store (variable_of p s) (variable_of q s)) _ _
           (ap (λ ty. pointers.copy (leaves_of flat.types ty) s.store (variable_of p s) (variable_of q s)) (same_pointee p)) (λ store. on (with_store s store))
-      both_do (form.kill v) j = on (put v indeterminate s)
+      both_do (form.kill v) j = on (with_store s (forgotten s.store (variable_home s.store v)))
       both_do (form.allocate zeros v o) j =
           both_counted _ _ _ _ (plain_operand o) (λ z.
           both_done (pointers.allocate flat.types (pointee_in flat (at next) v) zeros z s.store) (pointers.allocate flat.types (pointee_in made (at there) v) zeros z s.store) _ _

@@ -1,14 +1,16 @@
 -- Programs that are worked out, under a long of 64 bits.
-use Rattle.std.specs.Prelude.{ℕ, pos, ◌≡◌, List, [], ◌∷◌, ◌++◌, codes, Option, Some, true, false, refl}
+use Rattle.std.specs.Prelude.{ℕ, ℤ, pos, negsuc, ◌≡◌, List, [], ◌∷◌, ◌++◌, codes, Option, Some, true, false, refl}
 use Rattle.std.specs.Option.{option_map}
-use Rattle.porch_types.specs.declared.shapes.Kind.TheVariants.{Char}
+use Rattle.porch_types.specs.declared.shapes.Kind.TheVariants.{Char, UInt, Long}
 use Rattle.porch_types.specs.declared.shapes.Ty.{Ty}
-use Rattle.porch_types.specs.declared.shapes.Ty.TheVariants.{Pointer, Array}
+use Rattle.porch_types.specs.declared.shapes.Ty.TheVariants.{Pointer, Array, Struct}
 use Rattle.porch_types.specs.Kinds.{kind_number, int_type}
 use Rattle.porch_types.specs.Leaves.{kind_types}
+use Rattle.porch_values.specs.declared.acts.Act.{Act}
 use Rattle.porch_values.specs.declared.acts.Act.TheVariants as act
 use Rattle.porch_values.specs.declared.widths.Widths.{Widths}
 use Rattle.porch_objects.specs.Meaning.{without_input, reached, allocated, freed, Ending, Ended, Met, Paused}
+use Rattle.porch_flat.specs.declared.flat.Operand.{Operand}
 use Rattle.porch_flat.specs.declared.flat.Operand.TheVariants.{Var, Constant}
 use Rattle.porch_flat.specs.declared.flat.Init.{Init}
 use Rattle.porch_flat.specs.declared.flat.Init.TheVariants as init
@@ -115,3 +117,72 @@ pub record MarksAreTold : Type 0 where
   pub all : marks_to (with_a_block (command.Checkpoint ∷ command.Free 1 ∷ command.Move 2 (Constant (pos 0)) ∷ command.Free 2 ∷ [])) (without_input wide_only) 9 STEPS
       (begin (with_a_block (command.Checkpoint ∷ command.Free 1 ∷ command.Move 2 (Constant (pos 0)) ∷ command.Free 2 ∷ [])))
       ≡ allocated 2 1 ∷ reached 1 0 ∷ freed ∷ []
+
+-- the ints a and b in v0 and v1, an int * in v2, an int[2] in v3, an unsigned int in v4
+abbrev pub with_ints : List Command → Flat
+with_ints commands = record {
+  types = types;
+  globals = globals [];
+  functions = main_of (int_type ∷ int_type ∷ 8 ∷ 10 ∷ kind_number UInt ∷ []) commands ∷ [];
+}
+
+-- an operator of two constants, given back
+abbrev pub of_two : (ℕ → Operand → Operand → Command) → ℤ → ℤ → Flat
+of_two operator x y = with_ints (operator 0 (Constant x) (Constant y) ∷ command.Return (Some (Var 0)) ∷ [])
+
+abbrev pub gives : ℤ → Option Seen
+gives z = seen_as [] 1 (Ended z)
+
+abbrev pub meets : Act → Option Seen
+meets a = seen_as [] 1 (Met a)
+
+pub record OperatorsCompute : Type 0 where
+  pub product : seen_of 9 (of_two command.Mul (negsuc 2) (pos 4)) ≡ gives (negsuc 11)
+  pub quotient : seen_of 9 (of_two command.Div (negsuc 6) (pos 2)) ≡ gives (negsuc 2)
+  pub remainder : seen_of 9 (of_two command.Rem (negsuc 6) (pos 4)) ≡ gives (negsuc 2)
+  pub by_nothing : seen_of 9 (of_two command.Div (pos 1) (pos 0)) ≡ meets act.Divide
+  pub bits : seen_of 9 (of_two command.And (pos 12) (pos 10)) ≡ gives (pos 8)
+  pub any_bits : seen_of 9 (of_two command.Or (pos 12) (pos 10)) ≡ gives (pos 14)
+  pub other_bits : seen_of 9 (of_two command.Xor (pos 12) (pos 10)) ≡ gives (pos 6)
+  pub left_shift : seen_of 9 (of_two command.Shl (pos 3) (pos 4)) ≡ gives (pos 48)
+  pub right_shift : seen_of 9 (of_two command.Shr (pos 48) (pos 4)) ≡ gives (pos 3)
+  pub too_far : seen_of 9 (of_two command.Shl (pos 1) (pos 64)) ≡ meets act.Shift
+  pub overflow : seen_of 9 (of_two command.Mul (pos 65536) (pos 65536)) ≡ meets act.Overflow
+  pub complement : seen_of 9 (with_ints (command.Not 0 (Constant (pos 5)) ∷ command.Return (Some (Var 0)) ∷ [])) ≡ gives (negsuc 5)
+  pub less : seen_of 9 (of_two command.Lt (pos 1) (pos 1)) ≡ gives (pos 0)
+  pub at_most : seen_of 9 (of_two command.Le (pos 1) (pos 1)) ≡ gives (pos 1)
+  pub equal : seen_of 9 (of_two command.Eq (pos 1) (pos 2)) ≡ gives (pos 0)
+  pub unequal : seen_of 9 (of_two command.Ne (pos 1) (pos 2)) ≡ gives (pos 1)
+  pub cast : seen_of 9 (with_ints (command.Move 4 (Constant (pos 4294967295)) ∷ command.Cast 0 4 ∷ command.Return (Some (Var 0)) ∷ [])) ≡ gives (negsuc 0)
+
+pub record PlacesAreReached : Type 0 where
+  pub element : seen_of 9 (with_ints (command.Local 2 3 1 ∷ command.Store 2 (Constant (pos 7)) ∷ command.Load 0 2 ∷ command.Return (Some (Var 0)) ∷ [])) ≡ gives (pos 7)
+  -- all of an object is forgotten
+  pub killed : seen_of 9 (with_ints (command.Local 2 3 1 ∷ command.Store 2 (Constant (pos 7)) ∷ command.Kill 3 ∷ command.Load 0 2 ∷ [])) ≡ meets act.Indeterminate
+  pub inside : seen_of 9 (with_ints (command.Local 2 3 0 ∷ command.Member 2 2 0 ∷ command.Store 2 (Constant (pos 4)) ∷ command.Load 0 2 ∷ command.Return (Some (Var 0)) ∷ [])) ≡ gives (pos 4)
+  pub inside_null : seen_of 9 (with_ints (command.Move 2 (Constant (pos 0)) ∷ command.Member 2 2 0 ∷ [])) ≡ meets act.Access
+  pub apart : seen_of 9 (program_of (command.GlobalA 1 1 0 ∷ command.Step 2 1 (Constant (pos 1)) ∷ command.Eq 0 (Var 1) (Var 2) ∷ command.Return (Some (Var 0)) ∷ [])) ≡ gives (pos 0)
+  pub ordered : seen_of 9 (program_of (command.GlobalA 1 1 0 ∷ command.Step 2 1 (Constant (pos 1)) ∷ command.Lt 0 (Var 1) (Var 2) ∷ command.Return (Some (Var 0)) ∷ [])) ≡ gives (pos 1)
+  pub other_rows : seen_of 9 (program_of (command.GlobalA 1 1 0 ∷ command.GlobalA 2 1 2 ∷ command.Lt 0 (Var 1) (Var 2) ∷ [])) ≡ meets act.Relation
+  pub end_and_next : seen_of 9 (program_of (command.GlobalA 1 1 0 ∷ command.Step 1 1 (Constant (pos 2)) ∷ command.GlobalA 2 1 2 ∷ command.Eq 0 (Var 1) (Var 2) ∷ [])) ≡ meets act.Compare
+
+pub record JumpsLead : Type 0 where
+  -- i=3;do {i=i-1;} while(i);return i;
+  pub around : seen_of 9 (with_ints (command.Move 0 (Constant (pos 3)) ∷ command.Label 5 ∷ command.Turn ∷ command.Sub 0 (Var 0) (Constant (pos 1)) ∷ command.If (Var 0) 5 ∷ command.Return (Some (Var 0)) ∷ []))
+      ≡ seen_as [] 4 (Ended (pos 0))
+  pub forward : seen_of 9 (with_ints (command.Jump 5 ∷ command.Return (Some (Constant (pos 1))) ∷ command.Label 5 ∷ command.Return (Some (Constant (pos 2))) ∷ [])) ≡ gives (pos 2)
+
+-- struct {int a; int b;} in v1 and v2, pointers to it in v3 and v4, int * in v5 and v6, a long in v7, an int[2] in v8
+abbrev pub with_structs : List Command → Flat
+with_structs commands = record {
+  types = types ++ Struct (int_type ∷ int_type ∷ []) ∷ Pointer 13 ∷ [];
+  globals = globals [];
+  functions = main_of (int_type ∷ 13 ∷ 13 ∷ 14 ∷ 14 ∷ 8 ∷ 8 ∷ kind_number Long ∷ 10 ∷ []) commands ∷ [];
+}
+
+pub record StructsAreCopied : Type 0 where
+  pub copied : seen_of 9 (with_structs (command.Local 3 1 0 ∷ command.Member 5 3 1 ∷ command.Store 5 (Constant (pos 9)) ∷ command.Local 4 2 0 ∷ command.Copy 4 3
+      ∷ command.Member 5 4 1 ∷ command.Load 0 5 ∷ command.Return (Some (Var 0)) ∷ [])) ≡ gives (pos 9)
+  -- a member without a value is copied as it is
+  pub unset : seen_of 9 (with_structs (command.Local 3 1 0 ∷ command.Local 4 2 0 ∷ command.Copy 4 3 ∷ command.Member 5 4 0 ∷ command.Load 0 5 ∷ [])) ≡ meets act.Indeterminate
+  pub difference : seen_of 9 (with_structs (command.Local 5 8 0 ∷ command.Step 6 5 (Constant (pos 1)) ∷ command.Diff 7 5 6 ∷ command.Cast 0 7 ∷ command.Return (Some (Var 0)) ∷ [])) ≡ gives (negsuc 0)

@@ -1,6 +1,6 @@
 //! Programs that are worked out, which the check computes.
 
-ghost use Rattle.porch_abstract.specs.whole.Worked.{CallsReturn, EndsAreForgotten, BlocksEnd, TextsAreShown, MarksAreTold};
+ghost use Rattle.porch_abstract.specs.whole.Worked.{CallsReturn, EndsAreForgotten, BlocksEnd, TextsAreShown, MarksAreTold, OperatorsCompute, PlacesAreReached, JumpsLead, StructsAreCopied};
 
 /// A call's value comes back, each call counts a turn, and a run stops before one too many.
 pub fn calls_return()
@@ -25,4 +25,24 @@ pub fn texts_are_shown()
 /// A run tells its checkpoints, its allocations, and the frees that end one.
 pub fn marks_are_told()
     ensures { MarksAreTold }
+{}
+
+/// Each operator and comparison gives its result, or meets what it has none for.
+pub fn operators_compute()
+    ensures { OperatorsCompute }
+{}
+
+/// Pointers reach the parts of an object, compare where they may, and KILL forgets all of it.
+pub fn places_are_reached()
+    ensures { PlacesAreReached }
+{}
+
+/// A jump leads backward to a label that a TURN follows, or forward.
+pub fn jumps_lead()
+    ensures { JumpsLead }
+{}
+
+/// A struct is copied with what has no value, and a difference is in elements.
+pub fn structs_are_copied()
+    ensures { StructsAreCopied }
 {}
