@@ -102,17 +102,17 @@ tally_is p xs = is_count_by (tally p) p refl (λ x xs. refl) xs
 count_less : {X : Type 0} (p q : X → Bool) (xs : List X) → ((x : X) → p x ≡ true → q x ≡ true) → count_by p xs ≤ count_by q xs
 count_less p q xs weaker = let less = all_less p q xs weaker in let own = tally_is p xs in let other = tally_is q xs in omega (arith, less, own, other)
 
-pub few_from : (flat : Flat) → HasFew flat → (reaching : ℕ → Bool) → All (IsFew reaching) flat.functions
-few_from flat few reaching = λ k d inside.
+pub few_from : (flat : Flat) → HasFew flat → ((k : ℕ) → length (vars_of (slice_get flat.functions k)) ≤ 2 ^ 31) → (reaching : ℕ → Bool) → All (IsFew reaching) flat.functions
+few_from flat few bounded reaching = λ k d inside.
     let here : slice_get flat.functions k ≡ Some (slice_index_or flat.functions k d) = slice_get-get_or flat.functions k d inside in
     let own : commands_of (slice_get flat.functions k) ≡ (slice_index_or flat.functions k d).commands = rw here refl in
     let vars : vars_of (slice_get flat.functions k) ≡ (slice_index_or flat.functions k d).vars = rw here refl in
     record {
       numbers =
-          let less = subst (λ (cs : List Command). count_by (λ c. takes_label (form_of c)) cs < FIRST_LABEL) own (few.labels k) in
+          let less = subst (λ (cs : List Command). count_by (λ c. takes_label (form_of c)) cs < FIRST_LABEL) own (few k) in
           let fewer = count_less (has_number reaching) (λ c. takes_label (form_of c)) (slice_index_or flat.functions k d).commands (λ c is. takes_one reaching (form_of c) is) in
           omega (arith, less, fewer);
-      variables = subst (λ (vs : List ℕ). length vs ≤ 2 ^ 31) vars (few.variables k);
+      variables = subst (λ (vs : List ℕ). length vs ≤ 2 ^ 31) vars (bounded k);
     }
 
 -- what is kept of the functions decides alike
@@ -173,6 +173,6 @@ module _ (p q : ℕ → Bool) (same : (n : ℕ) → p n ≡ q n) where
 pub few_numbers : (flat : Flat) → HasFew flat → (reaching : ℕ → Bool) (k : ℕ) (f : Function) → slice_get flat.functions k ≡ Some f → numbers_in reaching f.commands < FIRST_LABEL
 few_numbers flat few reaching k f at =
     let own : commands_of (slice_get flat.functions k) ≡ f.commands = rw at refl in
-    let less = subst (λ (cs : List Command). count_by (λ c. takes_label (form_of c)) cs < FIRST_LABEL) own (few.labels k) in
+    let less = subst (λ (cs : List Command). count_by (λ c. takes_label (form_of c)) cs < FIRST_LABEL) own (few k) in
     let fewer = count_less (has_number reaching) (λ c. takes_label (form_of c)) f.commands (λ c is. takes_one reaching (form_of c) is) in
     omega (arith, less, fewer)

@@ -1,26 +1,23 @@
 -- The commands of a rewritten function, line by line: each keeps every rule.
-use Rattle.std.proofs.Common.{◌≡◌, ◌<◌, ◌≤◌, ◌⊎◌, inl, inr, ℕ, zero, suc, ◌+◌, List, [], ◌∷◌, ◌++◌, length, drop, refl, sym, ap, ◌∙◌, subst, arith, Bool, true, false, Option, Some, None}
-use Rattle.std.specs.Prelude.{slice_get, ◌-◌, ◌^◌, nat_lt, ◌==◌, ◌||◌, ◌&&◌, if◌then◌else◌, count_by}
+use Rattle.std.proofs.Common.{◌≡◌, ◌<◌, ◌≤◌, ℕ, zero, suc, ◌+◌, List, [], ◌∷◌, ◌++◌, length, drop, refl, sym, ap, ◌∙◌, subst, arith, Bool, true, false, Option, Some, None}
+use Rattle.std.specs.Prelude.{slice_get, ◌^◌, nat_lt, ◌&&◌, if◌then◌else◌}
 use Rattle.std.specs.List.{list_all, range_with_len}
 use Rattle.std.specs.Option.{option_map}
 use Rattle.std.proofs.lemmas.Bool.Decides.{nat_tests}
-use Rattle.std.proofs.lemmas.Grind.{common_steps}
 use Rattle.porch_flat.specs.declared.whole.Command.{Command}
 use Rattle.porch_flat.specs.declared.whole.Command.TheVariants as command
 use Rattle.porch_flat.specs.declared.whole.Function.{Function}
 use Rattle.porch_flat.specs.declared.whole.Flat.{Flat}
-use Rattle.porch_flat.specs.declared.whole.FlatRule.{FlatRule}
 use Rattle.porch_flat.specs.declared.whole.FlatRule.TheVariants as rule
-use Rattle.porch_flat.specs.declared.whole.Sort.TheVariants as sort
 use Rattle.porch_flat.specs.whole.Form as form
 use Rattle.porch_flat.specs.whole.Form.{Form, form_of, label_of, jump_of}
-use Rattle.porch_flat.specs.whole.Lines.{Line, command_line, end_line, command_lines}
-use Rattle.porch_flat.specs.whole.Places.{is_number, place_of_label, commands_of}
+use Rattle.porch_flat.specs.whole.Lines.{command_line, end_line, command_lines}
+use Rattle.porch_flat.specs.whole.Places.{is_number, place_of_label}
 use Rattle.porch_flat.specs.whole.Rewritten.{reaches, same_number, leads_to_checkpoint}
-use Rattle.porch_flat.specs.whole.Rules.{keeps, has_numbers, is_number_of, leads_well, stands_once, keeps_jump}
+use Rattle.porch_flat.specs.whole.Rules.{is_number_of, leads_well, stands_once, keeps_jump}
 use Rattle.porch_rewrite.specs.Laws.{label_named, HasRoom}
-use Rattle.porch_rewrite.specs.Rewriting.{FIRST_LABEL, has_number, numbers_in, with_marks, next_number, all_with_marks, tables, way_out, every_variable, front, back, saving_commands, with_commands, rewritten}
-use Rattle.porch_rewrite.proofs.Arriving.{is_label, find, position_is, drop_here, drop_some, drop_next, drop_append, append_more, unnumbered_form}
+use Rattle.porch_rewrite.specs.Rewriting.{FIRST_LABEL, has_number, numbers_in, all_with_marks, tables, way_out, every_variable, front, back, saving_commands, with_commands, rewritten}
+use Rattle.porch_rewrite.proofs.Arriving.{is_label, find, position_is, drop_here, drop_next, drop_append, append_more}
 use Rattle.porch_rewrite.proofs.Filling.{tally, tally_is}
 use Rattle.porch_rewrite.proofs.Lines.{Each, Keeps}
 use Rattle.porch_rewrite.proofs.SameRules.{numbers_same, kind_same, constants_same, arity_same}

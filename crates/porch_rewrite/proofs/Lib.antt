@@ -3,6 +3,7 @@ pub mod Filling
 pub mod Kept
 pub mod Lines
 pub mod Marked
+pub mod Room
 pub mod Runs
 pub mod SameMain
 pub mod SameReach

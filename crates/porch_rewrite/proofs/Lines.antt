@@ -1,21 +1,12 @@
 -- The lines of the rewritten program, each held against the rules by what its line of the plain program keeps.
-use Rattle.std.proofs.Common.{◌≡◌, ◌<◌, ◌≤◌, ◌↔◌, ℕ, zero, suc, ◌+◌, List, [], ◌∷◌, ◌++◌, length, drop, take, refl, sym, ap, ◌∙◌, subst, arith, Bool, true, false, Option, Some, None}
-use Rattle.std.specs.Prelude.{slice_get, nat_lt, ◌-◌, ◌&&◌, if◌then◌else◌, ⊤}
+use Rattle.std.proofs.Common.{◌≡◌, ℕ, zero, suc, ◌+◌, List, [], ◌∷◌, ◌++◌, refl, sym, ◌∙◌, subst, arith, Bool, true, false, Some, None}
+use Rattle.std.specs.Prelude.{slice_get, nat_lt, ◌-◌, if◌then◌else◌, ⊤}
 use Rattle.std.proofs.lemmas.Bool.Decides.{nat_tests}
-use Rattle.porch_types.specs.declared.shapes.Ty.{Ty}
-use Rattle.porch_flat.specs.declared.flat.GlobalObject.{GlobalObject}
-use Rattle.porch_flat.specs.declared.flat.Init.{Init}
-use Rattle.porch_flat.specs.declared.whole.Command.{Command}
-use Rattle.porch_flat.specs.declared.whole.Function.{Function}
 use Rattle.porch_flat.specs.declared.whole.Flat.{Flat}
 use Rattle.porch_flat.specs.declared.whole.FlatRule.{FlatRule}
-use Rattle.porch_flat.specs.declared.whole.FlatRule.TheVariants as rule
 use Rattle.porch_flat.specs.declared.whole.Sort.TheVariants as sort
-use Rattle.porch_flat.specs.whole.Form.{form_of}
-use Rattle.porch_flat.specs.whole.Lines.{Line, type_line, global_line, init_line, function_line, var_line, begin_line, command_line, end_line, type_lines, init_lines, global_lines, var_lines, command_lines, function_lines, lines_of, line_at}
-use Rattle.porch_flat.specs.whole.Rewritten.{reaches}
+use Rattle.porch_flat.specs.whole.Lines.{Line, lines_of, line_at}
 use Rattle.porch_flat.specs.whole.Rules.{keeps, IsValid}
-use Rattle.porch_rewrite.specs.Rewriting.{with_commands, saving_commands, rewritten_function, rewritten_functions, rewritten}
 
 -- each element of a list
 abbrev pub Each : {X : Type 0} → (X → Type 0) → List X → Type 0

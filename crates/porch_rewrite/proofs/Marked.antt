@@ -1,7 +1,7 @@
 -- The rule Modes of the rewritten program's functions.
-use Rattle.std.proofs.Common.{◌≡◌, ◌<◌, ◌≤◌, ◌⊎◌, inl, inr, ℕ, zero, suc, ◌+◌, ◌*◌, List, [], ◌∷◌, ◌++◌, length, map, drop, refl, sym, ap, ◌∙◌, subst, arith, Bool, true, false, Option, Some, None}
+use Rattle.std.proofs.Common.{◌≡◌, ◌<◌, ℕ, zero, suc, ◌+◌, ◌*◌, List, [], ◌∷◌, ◌++◌, length, map, drop, refl, sym, ap, ◌∙◌, subst, arith, Bool, true, false, Some}
 use Rattle.std.specs.Prelude.{slice_get, ◌-◌, nat_le, ◌==◌, ◌||◌, ◌&&◌, if◌then◌else◌, count_by}
-use Rattle.std.specs.List.{list_any, range_with_len}
+use Rattle.std.specs.List.{list_any}
 use Rattle.std.specs.Option.{option_map, option_and_then}
 use Rattle.std.proofs.lemmas.Bool.Decides.{nat_tests}
 use Rattle.std.proofs.lemmas.Grind.{common_steps}
@@ -12,9 +12,9 @@ use Rattle.porch_flat.specs.declared.whole.Flat.{Flat}
 use Rattle.porch_flat.specs.whole.Form as form
 use Rattle.porch_flat.specs.whole.Form.{Form, form_of, label_of, is_mode}
 use Rattle.porch_flat.specs.whole.Places.{is_number, commands_of}
-use Rattle.porch_flat.specs.whole.Calls.{is_checkpoint, is_call_of, calls, holds_checkpoint, IsClosed, IsLeastClosed}
-use Rattle.porch_flat.specs.whole.Rewritten.{leads_to_checkpoint, reaches, places_from, same_number, same_numbers, table_label, saved_label, restores, pushes, passes, last_label, is_marked, are_marked, has_ends, is_marked_at, is_rewritten, is_plain}
-use Rattle.porch_rewrite.specs.Rewriting.{FIRST_LABEL, has_number, numbers_in, with_marks, next_number, all_with_marks, tables, way_out, every_variable, front, back, saving_commands, with_commands, rewritten}
+use Rattle.porch_flat.specs.whole.Calls.{is_checkpoint, is_call_of, IsClosed, IsLeastClosed}
+use Rattle.porch_flat.specs.whole.Rewritten.{leads_to_checkpoint, reaches, places_from, same_number, same_numbers, last_label, is_marked, are_marked, has_ends, is_marked_at, is_rewritten, is_plain}
+use Rattle.porch_rewrite.specs.Rewriting.{FIRST_LABEL, has_number, numbers_in, all_with_marks, tables, way_out, every_variable, front, back, saving_commands, with_commands, rewritten}
 use Rattle.porch_rewrite.proofs.Arriving.{drop_here, drop_next, drop_append, append_more}
 use Rattle.porch_rewrite.proofs.Filling.{tally, tally_is, leads_alike}
 use Rattle.porch_rewrite.proofs.SameReach.{same_reach}

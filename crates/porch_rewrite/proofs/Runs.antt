@@ -1,8 +1,6 @@
 -- Runs of the plain program and of the rewritten one, side by side.
 use Rattle.std.proofs.Common.{◌≡◌, ◌<◌, ℕ, zero, suc, ◌+◌, pos, List, [], ◌∷◌, ◌++◌, length, drop, refl, sym, ap, ◌∙◌, subst, arith, Option, Some, None, Bool, true, false}
-use Rattle.std.specs.Prelude.{slice_get, if◌then◌else◌, unwrap_or, nat_le, nat_lt, ◌&&◌, codes}
-use Rattle.std.specs.Str.{bytes_eq}
-use Rattle.std.specs.List.{position_or_len}
+use Rattle.std.specs.Prelude.{slice_get, if◌then◌else◌, unwrap_or, nat_le, ◌&&◌}
 use Rattle.std.specs.Option.{option_map}
 use Rattle.porch_objects.specs.Store.{Value, number, null, pointer, past, indeterminate, entered}
 use Rattle.porch_objects.specs.Meaning.{Environment, Mark, Meaning, Ending, Ended, Met, Paused}
@@ -21,7 +19,7 @@ use Rattle.porch_abstract.specs.Run.{if_goes}
 use Rattle.porch_abstract.specs.whole.Machine.{begin, code_of, operand_of, pointee_in, onward, does, after, called, next}
 use Rattle.porch_abstract.specs.whole.Run.{allocation_of, allocated_where_made, marks_at, marks_of, counts_turn, counts, is_paused, run_to, then_on, observed, marks_to, Means, IsOneRun, RunsEnd}
 use Rattle.porch_rewrite.specs.Laws.{HasRoom}
-use Rattle.porch_rewrite.specs.Rewriting.{FIRST_LABEL, saving_commands, rewritten_function, rewritten_functions, rewritten}
+use Rattle.porch_rewrite.specs.Rewriting.{FIRST_LABEL, saving_commands, rewritten_function, rewritten}
 use Rattle.porch_rewrite.proofs.Arriving.{is_silent, AreSilent, drop_next, drop_here, drop_none, Fits, saving, behind, arrives, jumps_there, no_jump}
 use Rattle.porch_rewrite.proofs.SameMain.{main_same}
 use Rattle.porch_rewrite.proofs.Steps.{got, FrameFits, left_alone, rebuilt, CallersFit, no_callers, PhaseFits, fits_before, fits_running, fits_over, Follows, Both, both_do, ends_both, plain_operand, same_pointee, entry, same_vars}

@@ -1,9 +1,7 @@
 -- What a rule looks at in a command, but for where it may jump to, is the same in the rewritten program.
-use Rattle.std.proofs.Common.{◌≡◌, ℕ, List, [], ◌∷◌, length, map, refl, sym, ap, ◌∙◌, subst, Bool, true, false, Option, Some, None}
+use Rattle.std.proofs.Common.{◌≡◌, ℕ, List, [], ◌∷◌, length, refl, sym, ap, ◌∙◌, Bool, Option, Some, None}
 use Rattle.std.specs.Prelude.{slice_get, nat_lt, is_some, ◌==◌, ◌&&◌, ◌||◌, if◌then◌else◌}
 use Rattle.std.specs.List.{list_all}
-use Rattle.porch_flat.specs.declared.flat.Init.{Init}
-use Rattle.porch_flat.specs.declared.flat.Init.TheVariants as init
 use Rattle.porch_flat.specs.declared.flat.Operand.{Operand}
 use Rattle.porch_flat.specs.declared.flat.Operand.TheVariants.{Var, Constant}
 use Rattle.porch_flat.specs.declared.whole.Display.{Display}
@@ -11,15 +9,12 @@ use Rattle.porch_flat.specs.declared.whole.Display.TheVariants as display
 use Rattle.porch_flat.specs.declared.whole.Command.{Command}
 use Rattle.porch_flat.specs.declared.whole.Function.{Function}
 use Rattle.porch_flat.specs.declared.whole.Flat.{Flat}
-use Rattle.porch_flat.specs.declared.whole.FlatRule.{FlatRule}
-use Rattle.porch_flat.specs.declared.whole.FlatRule.TheVariants as rule
-use Rattle.porch_flat.specs.declared.whole.Sort.TheVariants as sort
 use Rattle.porch_values.specs.declared.acts.Op.{Op}
 use Rattle.porch_values.specs.Integers.{is_shift}
 use Rattle.porch_flat.specs.whole.Form as form
 use Rattle.porch_flat.specs.whole.Form.{Form, form_of, Within, operands_of, variables_of, free_numbers_of}
 use Rattle.porch_flat.specs.whole.Places.{INT, LONG, Place, place, places_of, params_of, result_of, own_type, compared_type, right_type, shown_type, argument_places, type_within, type_of_var, pointee_of_var, type_at}
-use Rattle.porch_flat.specs.whole.Rules.{names_variable, names_rest, has_numbers, is_number_of, fits, has_kinds, fit_kinds, has_constant, has_arity, gives_result, takes_result, is_leaf_of, is_wide, is_pointer, begins_at, are_alike}
+use Rattle.porch_flat.specs.whole.Rules.{names_variable, names_rest, has_numbers, is_number_of, fits, has_kinds, fit_kinds, has_constant, has_arity, gives_result, takes_result, is_wide, is_pointer, begins_at, are_alike}
 use Rattle.porch_flat.specs.whole.Rewritten.{same_number}
 use Rattle.porch_rewrite.specs.Rewriting.{with_commands, rewritten}
 use Rattle.porch_rewrite.proofs.Steps.{same_params, same_result}

@@ -1,6 +1,6 @@
 -- How many commands stand for those of a function from one on; so which of two places comes first.
-use Rattle.std.proofs.Common.{◌≡◌, ◌<◌, ◌≤◌, ◌⊎◌, inl, inr, ℕ, zero, suc, ◌+◌, List, [], ◌∷◌, ◌++◌, length, drop, refl, sym, ap, ◌∙◌, subst, arith, Bool, true, false, Option, Some, None}
-use Rattle.std.specs.Prelude.{slice_get, ◌-◌, nat_lt, ◌||◌, ◌&&◌, if◌then◌else◌}
+use Rattle.std.proofs.Common.{◌≡◌, ◌<◌, ◌≤◌, ℕ, zero, suc, ◌+◌, List, [], ◌∷◌, ◌++◌, length, drop, refl, sym, ap, ◌∙◌, subst, arith, Bool, true, false, Option, Some, None}
+use Rattle.std.specs.Prelude.{slice_get, ◌-◌, nat_lt, ◌||◌, if◌then◌else◌}
 use Rattle.std.specs.Option.{option_map}
 use Rattle.std.proofs.lemmas.Bool.Decides.{nat_tests}
 use Rattle.std.proofs.lemmas.Grind.{common_steps}
@@ -9,10 +9,10 @@ use Rattle.porch_flat.specs.declared.whole.Function.{Function}
 use Rattle.porch_flat.specs.whole.Form as form
 use Rattle.porch_flat.specs.whole.Form.{Form, form_of, is_turn, jump_of, label_of}
 use Rattle.porch_flat.specs.whole.Places.{is_number, place_of_label}
-use Rattle.porch_flat.specs.whole.Rewritten.{passes, leads_to_checkpoint, same_number}
-use Rattle.porch_flat.specs.whole.Rules.{may_lead, leads_well, stands_once}
+use Rattle.porch_flat.specs.whole.Rewritten.{passes, leads_to_checkpoint}
+use Rattle.porch_flat.specs.whole.Rules.{may_lead, leads_well}
 use Rattle.porch_rewrite.specs.Rewriting.{FIRST_LABEL, has_number, with_marks, next_number, all_with_marks, way_out, back, saving_commands, with_commands}
-use Rattle.porch_rewrite.proofs.Arriving.{is_label, find, position_is, some_suc, drop_next, drop_here, drop_some, Found, label_found, unnumbered_form}
+use Rattle.porch_rewrite.proofs.Arriving.{is_label, find, position_is, some_suc, drop_next, drop_here, drop_some, label_found, unnumbered_form}
 
 pub length_append : {X : Type 0} (xs ys : List X) → length (xs ++ ys) ≡ length xs + length ys
 length_append xs ys = grind (arith, common_steps)

@@ -1,7 +1,8 @@
 -- The rewritten program keeps every rule.
-use Rattle.std.proofs.Common.{◌≡◌, ◌<◌, ◌≤◌, ℕ, zero, suc, ◌+◌, List, [], ◌∷◌, ◌++◌, length, drop, refl, sym, ap, ◌∙◌, subst, arith, Bool, true, false, Option, Some, None}
-use Rattle.std.specs.Prelude.{slice_get, ◌&&◌, if◌then◌else◌, count_by}
+use Rattle.std.proofs.Common.{◌≡◌, ◌<◌, ◌≤◌, ◌^◌, ℕ, zero, suc, ◌+◌, List, [], ◌∷◌, ◌++◌, length, drop, refl, sym, ap, ◌∙◌, subst, arith, Bool, true, false, Option, Some, None}
+use Rattle.std.specs.Prelude.{slice_get, ◌&&◌}
 use Rattle.std.specs.Option.{option_map, option_and_then}
+use Rattle.std.proofs.lemmas.Bool.Decides.{nat_tests}
 use Rattle.porch_types.specs.declared.shapes.Ty.{Ty}
 use Rattle.porch_flat.specs.declared.flat.GlobalObject.{GlobalObject}
 use Rattle.porch_flat.specs.declared.flat.Init.{Init}
@@ -9,17 +10,16 @@ use Rattle.porch_flat.specs.declared.flat.Init.TheVariants as init
 use Rattle.porch_flat.specs.declared.whole.Command.{Command}
 use Rattle.porch_flat.specs.declared.whole.Function.{Function}
 use Rattle.porch_flat.specs.declared.whole.Flat.{Flat}
-use Rattle.porch_flat.specs.declared.whole.FlatRule.{FlatRule}
 use Rattle.porch_flat.specs.declared.whole.FlatRule.TheVariants as rule
 use Rattle.porch_flat.specs.declared.whole.Sort.TheVariants as sort
 use Rattle.porch_flat.specs.whole.Form.{form_of}
 use Rattle.porch_flat.specs.whole.Lines.{Line, type_line, global_line, init_line, function_line, var_line, begin_line, command_line, end_line, type_lines, init_lines, global_lines, var_lines, command_lines, function_lines, lines_of}
-use Rattle.porch_flat.specs.whole.Places.{commands_of, main_of}
+use Rattle.porch_flat.specs.whole.Places.{vars_of, main_of}
 use Rattle.porch_flat.specs.whole.Calls.{IsLeastClosed}
-use Rattle.porch_flat.specs.whole.Rewritten.{reaches, is_plain, is_rewritten}
-use Rattle.porch_flat.specs.whole.Rules.{keeps, IsValid, has_main, is_main_head}
-use Rattle.porch_rewrite.specs.Laws.{HasRoom, HasFew, takes_label}
-use Rattle.porch_rewrite.specs.Rewriting.{FIRST_LABEL, numbers_in, with_commands, saving_commands, rewritten_function, rewritten_functions, rewritten}
+use Rattle.porch_flat.specs.whole.Rewritten.{reaches, is_rewritten}
+use Rattle.porch_flat.specs.whole.Rules.{IsValid, has_main, is_main_head, is_number_of, is_type}
+use Rattle.porch_rewrite.specs.Laws.{HasRoom, HasFew}
+use Rattle.porch_rewrite.specs.Rewriting.{with_commands, saving_commands, rewritten_function, rewritten_functions, rewritten}
 use Rattle.porch_rewrite.proofs.Filling.{few_numbers}
 use Rattle.porch_rewrite.proofs.Kept.{commands_kept}
 use Rattle.porch_rewrite.proofs.Lines.{Each, each_append, each_first, each_second, Keeps, lines_kept, valid_by_lines}
@@ -220,3 +220,36 @@ module _ (flat : Flat) (room : HasRoom flat) (few : HasFew flat) (least : IsLeas
 pub keeps_rules : ((flat : Flat) → IsLeastClosed flat (reaches flat)) → (flat : Flat) → IsValid sort.Plain flat → HasRoom flat → HasFew flat → IsValid sort.Rewritten (rewritten flat)
 keeps_rules least flat valid room few =
     valid_by_lines (rewritten flat) (all_kept flat room few (least flat) (lines_kept flat valid)) (main_kept flat room few (least flat) valid.main)
+
+-- variables have numbers
+
+vars_bounded : (flat : Flat) (f : Function) (v : ℕ) (tys : List ℕ) → v ≤ 2 ^ 31 → Each (Keeps flat false) (var_lines f v tys) → v + length tys ≤ 2 ^ 31
+vars_bounded flat f v [] le kept = omega (arith, le)
+vars_bounded flat f v (ty ∷ tys) le kept =
+    let less : v < 2 ^ 31 = below v (both_left (is_number_of v) (is_type flat ty) (kept.0 rule.Number)) in
+    let rest = vars_bounded flat f (v + 1) tys (omega (arith, less)) kept.1 in
+    omega (arith, rest)
+  where
+    both_left : (a b : Bool) → a && b ≡ true → a ≡ true
+    both_left true b h = refl
+    both_left false b h = absurd (cc)
+
+    below : (n : ℕ) → is_number_of n ≡ true → n < 2 ^ 31
+    below n h = grind (arith, nat_tests, h)
+
+functions_bounded : (flat : Flat) (n : ℕ) (fs : List Function) → Each (Keeps flat false) (function_lines n fs) → (k : ℕ) → length (vars_of (slice_get fs k)) ≤ 2 ^ 31
+functions_bounded flat n [] kept k = omega arith
+functions_bounded flat n (f ∷ fs) kept zero =
+    let none : 0 + length f.vars ≡ length f.vars = omega arith in
+    let few = vars_bounded flat f 0 f.vars (omega arith) (each_first (Keeps flat false) (var_lines f 0 f.vars) (begin_line ∷ (command_lines f 0 f.commands ++ function_lines (n + 1) fs)) kept.1) in
+    omega (arith, few)
+functions_bounded flat n (f ∷ fs) kept (suc k) =
+    functions_bounded flat (n + 1) fs
+    (each_second (Keeps flat false) (command_lines f 0 f.commands) (function_lines (n + 1) fs)
+    (each_second (Keeps flat false) (var_lines f 0 f.vars) (begin_line ∷ (command_lines f 0 f.commands ++ function_lines (n + 1) fs)) kept.1).1) k
+
+pub variables_few : (flat : Flat) → IsValid sort.Plain flat → (k : ℕ) → length (vars_of (slice_get flat.functions k)) ≤ 2 ^ 31
+variables_few flat valid k =
+    functions_bounded flat 0 flat.functions
+    (each_second (Keeps flat false) (global_lines 0 flat.globals) (function_lines 0 flat.functions)
+    (each_second (Keeps flat false) (type_lines 8 (drop 8 flat.types)) (global_lines 0 flat.globals ++ function_lines 0 flat.functions) (lines_kept flat valid))) k

@@ -33,11 +33,14 @@ takes_label (form.call into function arguments) = true
 takes_label form.checkpoint = true
 takes_label other = false
 
--- in each function there are fewer of them than labels can be added, and no more variables than have numbers
-pub record HasFew (flat : Flat) : Type 0 where
-  pub labels : (f : ℕ) → count_by (λ c. takes_label (form_of c)) (commands_of (slice_get flat.functions f)) < FIRST_LABEL
-  pub variables : (f : ℕ) → length (vars_of (slice_get flat.functions f)) ≤ 2 ^ 31
+-- in each function there are fewer of them than labels can be added
+abbrev pub HasFew : Flat → Type 0
+HasFew flat = (f : ℕ) → count_by (λ c. takes_label (form_of c)) (commands_of (slice_get flat.functions f)) < FIRST_LABEL
 
 -- The rewritten program keeps every rule where the plain one does.
 abbrev pub KeepsRules : Type 0
 KeepsRules = (flat : Flat) → IsValid sort.Plain flat → HasRoom flat → HasFew flat → IsValid sort.Rewritten (rewritten flat)
+
+-- No function of a program that keeps its rules has more variables than there are numbers for them.
+abbrev pub VariablesHaveNumbers : Type 0
+VariablesHaveNumbers = (flat : Flat) → IsValid sort.Plain flat → (f : ℕ) → length (vars_of (slice_get flat.functions f)) ≤ 2 ^ 31

@@ -1,14 +1,17 @@
 //! The rewritten program, function by function.
 
-ghost use Rattle.std.specs.Prelude.{◌≡◌, ◌<◌, ◌≤◌, ◌+◌, ◌++◌, ◌^◌, ℕ, IfOk, OnOk, reverse, length, slice_index_or, false};
-ghost use Rattle.std.specs.List.{All, range_with_len};
+ghost use Rattle.std.specs.Prelude.{◌≡◌, ◌<◌, ◌≤◌, ◌↔◌, ◌+◌, ◌++◌, ◌^◌, ℕ, IsTrue, IfOk, OnOk, count_by, reverse, length, slice_get, slice_index_or, false};
+ghost use Rattle.std.specs.List.{All, list_all, range_with_len};
 ghost use Rattle.porch_flat.specs.whole.Rewritten.{reaches};
-ghost use Rattle.porch_rewrite.specs.Laws.{HasFew, HasRoom};
+ghost use Rattle.porch_flat.specs.whole.Form.{form_of};
+ghost use Rattle.porch_flat.specs.whole.Places.{vars_of};
+ghost use Rattle.porch_rewrite.specs.Laws.{HasFew, HasRoom, takes_label};
 ghost use Rattle.porch_rewrite.specs.Rewriting as rewriting;
 ghost use Rattle.porch_rewrite.specs.Rewriting.{FIRST_LABEL};
 ghost use Rattle.porch_rewrite.specs.inside.Marked.{marked, saving_of, IsFew};
+ghost use Rattle.porch_rewrite.specs.inside.Room.{is_below, leaves_room};
 
-use crate::laws::rewriting_keeps_the_rules;
+use crate::laws::{rewriting_keeps_the_rules, variables_have_numbers};
 use porch_flat::whole::{Command, Flat, Function, Plain, Valid, reaching};
 use sqlite_items::Items;
 use std::alloc::{AllocError, Global};
@@ -16,21 +19,87 @@ use std::alloc::{AllocError, Global};
 /// The labels that are added begin here.
 const FIRST_LABEL: u32 = 1 << 30;
 
-/// The program as one that saves and rebuilds its frames; it means what it meant. In each function LABEL, CALL and CHECKPOINT
-/// commands have to be fewer than 2^30, variables at most 2^31, and labels below 2^30. Its time is linear in the commands.
+/// The program as one that saves and rebuilds its frames (`specs/Rewriting`), which `rewriting_keeps_the_meaning` says means
+/// the same. Each label has to be below 2^30, and in each function LABEL, CALL and CHECKPOINT commands fewer than that;
+/// `has_room` tells. Its time is linear in the commands.
 pub fn rewrite(alloc: Global, plain: Plain) -> Result<Valid, AllocError>
     requires room { HasRoom plain }
     requires few { HasFew plain }
     ensures { IfOk result (λ made. made ≡ rewriting.rewritten plain) }
 {
     rewriting_keeps_the_rules();
-    let made = rewritten(alloc, plain.into_flat())?;
+    variables_have_numbers();
+    let made = rewrite_flat(alloc, plain.into_flat())?;
     Ok(Valid::from_valid(made))
 }
 
-/// The program with the commands that save and rebuild frames, in each function that reaches a checkpoint.
-pub fn rewritten(alloc: Global, flat: Flat) -> Result<Flat, AllocError>
+/// Whether the labels of a program, and the commands that take one, leave room for those that `rewrite` adds. It takes no
+/// memory.
+pub fn has_room(flat: &Flat) -> bool
+    ensures { IsTrue result ↔ (HasRoom flat.now × HasFew flat.now) }
+{
+    all_leave_room(flat.functions.as_slice())
+}
+
+fn all_leave_room(functions: &[Function]) -> bool
+    ensures { result ≡ list_all (λ f. leaves_room f.commands) functions.now }
+{
+    functions
+        .iter()
+        .all(|function| leaves_room(function.commands.as_slice()))
+}
+
+// In one function.
+fn leaves_room(commands: &[Command]) -> bool
+    ensures { result ≡ leaves_room commands.now }
+{
+    let below = all_below(commands);
+    let taken = labels_taken(commands);
+    below && taken < FIRST_LABEL as usize
+}
+
+fn all_below(commands: &[Command]) -> bool
+    ensures { result ≡ list_all (λ c. is_below (form_of c)) commands.now }
+{
+    commands.iter().all(|command| is_below(command))
+}
+
+fn labels_taken(commands: &[Command]) -> usize
+    ensures value { result ≡ count_by (λ c. takes_label (form_of c)) commands.now }
+    ensures few { result ≤ length commands.now }
+{
+    let mut count = 0;
+    for command in commands {
+        if takes_label(command) {
+            count += 1;
+        }
+    }
+    count
+}
+
+// Whether the label that a command names lies below those that are added.
+fn is_below(command: &Command) -> bool
+    ensures { result ≡ is_below (form_of command.now) }
+{
+    match command {
+        Command::Label(n) | Command::Jump(n) | Command::If(_, n) => *n < FIRST_LABEL,
+        _ => true,
+    }
+}
+
+fn takes_label(command: &Command) -> bool
+    ensures { result ≡ takes_label (form_of command.now) }
+{
+    matches!(
+        command,
+        Command::Label(_) | Command::Call(_, _, _) | Command::Checkpoint
+    )
+}
+
+// The program with the commands that save and rebuild frames, in each function that reaches a checkpoint.
+fn rewrite_flat(alloc: Global, flat: Flat) -> Result<Flat, AllocError>
     requires few { HasFew flat }
+    requires variables { (f : ℕ) → length (vars_of (slice_get flat.functions f)) ≤ 2 ^ 31 }
     ensures { IfOk result (λ made. made ≡ rewriting.rewritten flat) }
 {
     let reached = reaching(alloc, &flat)?;
@@ -39,7 +108,7 @@ pub fn rewritten(alloc: Global, flat: Flat) -> Result<Flat, AllocError>
         globals,
         functions,
     } = flat;
-    let functions = rewritten_functions(alloc, &reached[..], functions)?;
+    let functions = rewrite_functions(alloc, &reached[..], functions)?;
     Ok(Flat {
         types,
         globals,
@@ -67,7 +136,7 @@ fn is_marked(reached: &[bool], function: usize) -> bool
     }
 }
 
-fn rewritten_functions(
+fn rewrite_functions(
     alloc: Global,
     reached: &[bool],
     functions: Items<Function>,
@@ -76,17 +145,17 @@ fn rewritten_functions(
     ensures { IfOk result
         (λ made. made ≡ rewriting.rewritten_functions (marked reached.now) 0 functions) }
 {
-    let mut turned = turned_round(alloc, functions)?;
+    let mut turned = reverse_of(alloc, functions)?;
     let mut made = Items::new(alloc);
     while let Some(function) = turned.pop() {
         let number = made.len();
-        made.push(rewritten_function(alloc, reached, number, function)?)?;
+        made.push(rewrite_function(alloc, reached, number, function)?)?;
     }
     Ok(made)
 }
 
 // The last comes first.
-fn turned_round<T: Drop>(alloc: Global, items: Items<T>) -> Result<Items<T>, AllocError>
+fn reverse_of<T: Drop>(alloc: Global, items: Items<T>) -> Result<Items<T>, AllocError>
     ensures { IfOk result (λ turned. turned ≡ reverse items) }
 {
     let mut items = items;
@@ -97,7 +166,7 @@ fn turned_round<T: Drop>(alloc: Global, items: Items<T>) -> Result<Items<T>, All
     Ok(turned)
 }
 
-fn rewritten_function(
+fn rewrite_function(
     alloc: Global,
     reached: &[bool],
     number: usize,
@@ -196,7 +265,7 @@ fn push_marked(
     ensures { OnOk result (made.new
         ≡ made.old ++ rewriting.all_with_marks (marked reached.now) out 0 commands) }
 {
-    let mut turned = turned_round(alloc, commands)?;
+    let mut turned = reverse_of(alloc, commands)?;
     let mut before = 0;
     while let Some(command) = turned.pop() {
         if has_number(reached, &command) {

@@ -1,6 +1,6 @@
 //! What is proved of rewriting.
 
-ghost use Rattle.porch_rewrite.specs.Laws.{KeepsRules, SameMeaning};
+ghost use Rattle.porch_rewrite.specs.Laws.{KeepsRules, SameMeaning, VariablesHaveNumbers};
 
 use porch_abstract::whole::laws::{runs_end, runs_have_one_end};
 use porch_flat::whole::reaching_is_least;
@@ -20,3 +20,8 @@ pub fn rewriting_keeps_the_rules()
 {
     reaching_is_least();
 }
+
+/// No function of a program that keeps its rules has more variables than there are numbers for them.
+pub fn variables_have_numbers()
+    ensures { VariablesHaveNumbers }
+{}

@@ -7,4 +7,4 @@ mod functions;
 pub mod laws;
 pub mod worked;
 
-pub use functions::{rewrite, rewritten};
+pub use functions::{has_room, rewrite};

@@ -5,10 +5,10 @@ use Rattle.porch_flat.specs.whole.Rewritten.{reaches}
 use Rattle.porch_rewrite.specs.Rewriting.{rewritten_functions}
 use Rattle.porch_rewrite.specs.inside.Marked.{marked}
 use Rattle.porch_rewrite.proofs.Filling.{few_from, functions_alike}
-use Rattle.porch_rewrite.proofs.functions.rewritten.Goals as goal
+use Rattle.porch_rewrite.proofs.functions.rewrite_flat.Goals as goal
 
-pub rewritten_functions-requires : goal.rewritten_functions-requires
-rewritten_functions-requires c = few_from c.args.flat c.requires.few (marked c.deref.result.now)
+pub rewrite_functions-requires : goal.rewrite_functions-requires
+rewrite_functions-requires c = few_from c.args.flat c.requires.few c.requires.variables (marked c.deref.result.now)
 
 pub returns : goal.returns
 returns c =

@@ -1,6 +1,6 @@
 use Rattle.std.proofs.Common.{◌≡◌, ◌++◌, length}
 use Rattle.std.specs.Prelude.{reverse}
-use Rattle.porch_rewrite.proofs.functions.turned_round.Given as goal
+use Rattle.porch_rewrite.proofs.functions.reverse_of.Given as goal
 
 abbrev pub invariant-loop-item : goal.invariant-loop-item
 invariant-loop-item g l = l.turned ++ reverse l.items ≡ reverse l.fn.items

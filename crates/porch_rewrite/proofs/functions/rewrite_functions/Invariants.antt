@@ -3,7 +3,7 @@ use Rattle.std.specs.Prelude.{reverse}
 use Rattle.std.specs.List.{All}
 use Rattle.porch_rewrite.specs.Rewriting as rewriting
 use Rattle.porch_rewrite.specs.inside.Marked.{marked, IsFew}
-use Rattle.porch_rewrite.proofs.functions.rewritten_functions.Given as goal
+use Rattle.porch_rewrite.proofs.functions.rewrite_functions.Given as goal
 
 abbrev pub invariant-loop-function : goal.invariant-loop-function
 invariant-loop-function l = record {

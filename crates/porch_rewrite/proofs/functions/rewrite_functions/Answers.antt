@@ -6,7 +6,7 @@ use Rattle.porch_flat.specs.declared.whole.Function.{Function}
 use Rattle.porch_rewrite.specs.Rewriting.{rewritten_function, rewritten_functions}
 use Rattle.porch_rewrite.specs.inside.Marked.{marked, IsFew}
 use Rattle.porch_rewrite.proofs.Filling.{last_is_few, others_are_few, one_function}
-use Rattle.porch_rewrite.proofs.functions.rewritten_functions.Goals as goal
+use Rattle.porch_rewrite.proofs.functions.rewrite_functions.Goals as goal
 
 pub loop-function-init : goal.loop-function-init
 loop-function-init c =
@@ -16,13 +16,13 @@ loop-function-init c =
       few = subst (λ l. All (IsFew (marked c.args.reached.now)) l) (sym back) c.requires;
     }
 
-pub rewritten_function-requires : goal.rewritten_function-requires
-rewritten_function-requires c = last_is_few (marked c.args.reached.now) c.loop-function.turned c.pop.new.self c.in-Some.function c.in-Some.ensures c.loop-function.invariant.few
+pub rewrite_function-requires : goal.rewrite_function-requires
+rewrite_function-requires c = last_is_few (marked c.args.reached.now) c.loop-function.turned c.pop.new.self c.in-Some.function c.in-Some.ensures c.loop-function.invariant.few
 
 pub loop-function-preserved : goal.loop-function-preserved
 loop-function-preserved c =
     let m = marked c.args.reached.now in
-    let made : c.in_ok-rewritten_function.field-0 ≡ rewritten_function m (length c.loop-function.made) c.in-Some.function = c.in_ok-rewritten_function.ensures ∙ ap (λ n. rewritten_function m n c.in-Some.function) c.len-number.ensures in
+    let made : c.in_ok-rewrite_function.field-0 ≡ rewritten_function m (length c.loop-function.made) c.in-Some.function = c.in_ok-rewrite_function.ensures ∙ ap (λ n. rewritten_function m n c.in-Some.function) c.len-number.ensures in
     let pushed : c.push.new.self ≡ c.loop-function.made ++ rewritten_function m (length c.loop-function.made) c.in-Some.function ∷ [] = c.in_ok-push.ensures.ok ∙ ap (λ f. c.loop-function.made ++ f ∷ []) made in
     record {
       code =
