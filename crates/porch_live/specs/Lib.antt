@@ -1,0 +1,3 @@
+-- what names, values and roots mean
+pub mod Views
+pub mod inside

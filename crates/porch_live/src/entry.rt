@@ -1,0 +1,64 @@
+//! The objects of one call or of one allocation, under its number.
+ghost use Rattle.std.specs.Prelude.{◌≡◌, slice_get, slice_set};
+ghost use Rattle.std.specs.Option.{option_map};
+ghost use Rattle.porch_objects.specs.Store.{changed_at};
+ghost use Rattle.porch_live.specs.Views.{value_of};
+ghost use Rattle.porch_live.specs.inside.Entries.{with_leaf, with_variables};
+
+use crate::object::Object;
+use crate::value::Value;
+use std::marker::Model;
+
+/// The objects of a call or of an allocation. Contracts see it as a call with its variables.
+#[derive(Drop)]
+pub(crate) struct Entry {
+    number: u64,
+    objects: Vec<Object>,
+}
+
+impl Model for Entry {
+    ghost use Rattle.porch_objects.specs.Store as store;
+
+    ghost Value = { store.Activation };
+
+    ghost view = { λ e. record { number = e.number; variables = e.objects.items } };
+}
+
+impl Entry {
+    pub(crate) fn new(number: u64, objects: Vec<Object>) -> Entry
+        ensures number { result.number ≡ number }
+        ensures objects { result.variables ≡ objects.items }
+    {
+        Entry { number, objects }
+    }
+
+    pub(crate) fn number(&self) -> u64
+        ensures { result ≡ self.now.number }
+    {
+        self.number
+    }
+
+    pub(crate) fn object(&self, index: usize) -> Option<&Object>
+        ensures { option_map (λ object. object.now) result ≡ slice_get self.now.variables index }
+    {
+        self.objects.get(index)
+    }
+
+    /// Gives a leaf of an object a value, where it is there.
+    pub(crate) fn set_leaf(&mut self, index: usize, leaf: u64, value: Value)
+        ensures { self.new ≡ with_variables self.old (changed_at (with_leaf leaf (value_of value))
+            self.old.variables (slice_get self.old.variables index) index) }
+    {
+        set_leaf_in(&mut self.objects, index, leaf, value);
+    }
+}
+
+fn set_leaf_in(objects: &mut [Object], index: usize, leaf: u64, value: Value)
+    ensures { objects.new ≡ changed_at (with_leaf leaf (value_of value)) objects.old
+        (slice_get objects.old index) index }
+{
+    if index < objects.len() {
+        let object = &mut objects[index];
+        object.set_leaf(leaf, value);
+    }
+}

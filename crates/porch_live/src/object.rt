@@ -1,0 +1,71 @@
+//! Objects, each a root with the values of its leaves.
+ghost use Rattle.std.specs.Prelude.{◌≡◌, length, slice_set, slice_index_or, IfOk};
+ghost use Rattle.porch_objects.specs.Store.{indeterminate, with_leaves};
+ghost use Rattle.porch_live.specs.Views.{value_of, root_of};
+
+use crate::value::Value;
+use std::alloc::{AllocError, Global};
+use std::marker::Model;
+
+/// So many elements of a type in a row.
+#[derive(Clone, Copy, Debug)]
+pub struct Root {
+    pub ty: u32,
+    pub count: u32,
+}
+
+/// An object. Contracts see its root and the values of its leaves in order.
+#[derive(Drop)]
+pub struct Object {
+    root: Root,
+    leaves: Vec<Value>,
+}
+
+impl Model for Object {
+    ghost use Rattle.std.specs.Prelude.{map};
+    ghost use Rattle.porch_objects.specs.Store as store;
+
+    ghost Value = { store.Object };
+
+    ghost use Rattle.porch_live.specs.Views.{value_of, root_of};
+
+    ghost view = { λ o. record { root = root_of o.root; leaves = map value_of o.leaves.items } };
+}
+
+impl Object {
+    /// The root.
+    pub fn root(&self) -> Root
+        ensures { root_of result ≡ self.now.root }
+    {
+        self.root
+    }
+
+    /// How many leaves it has.
+    pub fn len(&self) -> usize
+        ensures { result ≡ length self.now.leaves }
+    {
+        self.leaves.len()
+    }
+
+    /// The value of a leaf; indeterminate behind the last.
+    pub fn leaf(&self, leaf: u64) -> Value
+        ensures { value_of result ≡ slice_index_or self.now.leaves leaf indeterminate }
+    {
+        let at = leaf as usize;
+        if at < self.leaves.len() {
+            self.leaves[at]
+        } else {
+            Value::Indeterminate
+        }
+    }
+
+    /// Gives a leaf a value. Behind the last leaf nothing changes.
+    pub fn set_leaf(&mut self, leaf: u64, value: Value)
+        ensures { self.new ≡ with_leaves self.old (slice_set self.old.leaves leaf (value_of value)) }
+    {
+        let at = leaf as usize;
+        if at < self.leaves.len() {
+            self.leaves[at] = value;
+        }
+    }
+}

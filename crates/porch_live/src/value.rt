@@ -1,0 +1,29 @@
+//! Names of objects, and what a leaf holds.
+
+/// Which object: a global by its number, a variable of a call, or an allocation. Calls and allocations
+/// are counted over the whole run, all from 0.
+#[derive(Clone, Copy, Debug)]
+pub enum Home {
+    Global(u32),
+    Call { call: u64, variable: u32 },
+    Block(u64),
+}
+
+/// What a leaf holds.
+#[derive(Clone, Copy, Debug)]
+pub enum Value {
+    Number(i128),
+    Null,
+    /// The subobject that begins at a leaf of an object.
+    Pointer { home: Home, leaf: u64 },
+    /// One past the subobject that begins at a leaf, which is the last of its row. Where that end is
+    /// shared with the object that follows, it is good only as long as so many calls of checkpoint()
+    /// were reached, and no more.
+    Past {
+        home: Home,
+        leaf: u64,
+        until: Option<u64>,
+    },
+    /// It was given no value, or has none any more.
+    Indeterminate,
+}
