@@ -2,3 +2,4 @@ pub mod Rising
 pub mod Found
 pub mod Stacked
 pub mod Blocks
+pub mod Kept

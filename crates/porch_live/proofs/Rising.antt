@@ -33,8 +33,8 @@ before_smaller es m a n rising within read small k e less there =
     elim (cases_lt k m) [
       | inl w ↦ omega (arith, rising_before 0 es k m e a rising w there here)
       | inr w ↦ let at : k ≡ m = omega arith in
-                let both : slice_get es m ≡ Some e = ap (λ i. slice_get es i) (sym at) ∙ there in
-                let same : e ≡ a = cc in rw same small
+          let both : slice_get es m ≡ Some e = ap (λ i. slice_get es i) (sym at) ∙ there in
+          let same : e ≡ a = cc in rw same small
     ]
 
 -- from an entry above a number on, all are above it
@@ -45,6 +45,6 @@ after_greater es m a n rising within read great k e less there =
     elim (cases_lt m k) [
       | inl w ↦ omega (arith, rising_before 0 es m k a e rising w here there)
       | inr w ↦ let at : k ≡ m = omega arith in
-                let both : slice_get es m ≡ Some e = ap (λ i. slice_get es i) (sym at) ∙ there in
-                let same : e ≡ a = cc in rw same great
+          let both : slice_get es m ≡ Some e = ap (λ i. slice_get es i) (sym at) ∙ there in
+          let same : e ≡ a = cc in rw same great
     ]

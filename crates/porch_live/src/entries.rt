@@ -1,13 +1,14 @@
 //! Entries by rising number: which one has a number, and the objects of it.
-ghost use Rattle.std.specs.Prelude.{◌≡◌, IfSome, IfNone, slice_get};
+ghost use Rattle.std.specs.Prelude.{◌≡◌, ℕ, ◌++◌, ◌∷◌, [], IfSome, IfNone, OnOk, OnErr, slice_get};
 ghost use Rattle.std.specs.Option.{option_map};
-ghost use Rattle.porch_objects.specs.Store.{variables_in, changed_calls};
+ghost use Rattle.porch_objects.specs.Store.{variables_in, changed_calls, innermost_in, callers_in};
 ghost use Rattle.porch_live.specs.Views.{value_of};
-ghost use Rattle.porch_live.specs.inside.Entries.{IsRising, StandsAt, HasNone, with_leaf};
+ghost use Rattle.porch_live.specs.inside.Entries.{IsRising, IsBelow, StandsAt, HasNone, with_leaf, stacked};
 
 use crate::entry::Entry;
 use crate::object::Object;
 use crate::value::Value;
+use std::alloc::AllocError;
 
 /// The object of an entry.
 pub(crate) fn object_in(entries: &[Entry], number: u64, index: usize) -> Option<&Object>
@@ -22,15 +23,51 @@ pub(crate) fn object_in(entries: &[Entry], number: u64, index: usize) -> Option<
 }
 
 /// Gives a leaf of an object of an entry a value, where it is there.
-pub(crate) fn set_leaf_in(entries: &mut [Entry], number: u64, index: usize, leaf: u64, value: Value)
-    requires { IsRising 0 entries.old }
-    ensures { entries.new
-        ≡ changed_calls (with_leaf leaf (value_of value)) entries.old number index }
+pub(crate) fn set_leaf_in(
+    entries: &mut Vec<Entry>,
+    number: u64,
+    index: usize,
+    leaf: u64,
+    value: Value,
+)
+    requires { IsRising 0 entries.old.items }
+    ensures { entries.new.items
+        ≡ changed_calls (with_leaf leaf (value_of value)) entries.old.items number index }
 {
     if let Some(at) = index_of(entries, number) {
         let entry = &mut entries[at];
         entry.set_leaf(index, leaf, value);
     }
+}
+
+/// The number of the last entry, and this one where there is none.
+pub(crate) fn last_number(entries: &[Entry], none: u64) -> u64
+    ensures { result ≡ innermost_in (stacked entries.now []) none }
+{
+    match entries.last() {
+        Some(entry) => entry.number(),
+        None => none,
+    }
+}
+
+/// One entry more at the end.
+pub(crate) fn push(entries: &mut Vec<Entry>, entry: Entry) -> Result<(), AllocError>
+    ensures pushed { OnOk result (entries.new.items ≡ entries.old.items ++ entry ∷ []) }
+    ensures same { OnErr result (entries.new.items ≡ entries.old.items) }
+{
+    match entries.push(entry) {
+        Ok(()) => Ok(()),
+        Err(_) => Err(AllocError),
+    }
+}
+
+/// The last entry goes, where there is one.
+pub(crate) fn remove_last(entries: &mut Vec<Entry>)
+    ensures calls { stacked entries.new.items [] ≡ callers_in (stacked entries.old.items []) }
+    ensures rising { (low : ℕ) → IsRising low entries.old.items → IsRising low entries.new.items }
+    ensures below { (high : ℕ) → IsBelow high entries.old.items → IsBelow high entries.new.items }
+{
+    let _ = entries.pop();
 }
 
 /// Where the entry of a number stands. The last one is asked first, which is the innermost call or the

@@ -5,7 +5,7 @@ ghost use Rattle.porch_objects.specs.Store.{changed_at};
 ghost use Rattle.porch_live.specs.Views.{value_of};
 ghost use Rattle.porch_live.specs.inside.Entries.{with_leaf, with_variables};
 
-use crate::object::Object;
+use crate::object::{Object, set_leaf_of};
 use crate::value::Value;
 use std::marker::Model;
 
@@ -26,8 +26,7 @@ impl Model for Entry {
 
 impl Entry {
     pub(crate) fn new(number: u64, objects: Vec<Object>) -> Entry
-        ensures number { result.number ≡ number }
-        ensures objects { result.variables ≡ objects.items }
+        ensures { result ≡ record { number = number; variables = objects.items } }
     {
         Entry { number, objects }
     }
@@ -49,16 +48,6 @@ impl Entry {
         ensures { self.new ≡ with_variables self.old (changed_at (with_leaf leaf (value_of value))
             self.old.variables (slice_get self.old.variables index) index) }
     {
-        set_leaf_in(&mut self.objects, index, leaf, value);
-    }
-}
-
-fn set_leaf_in(objects: &mut [Object], index: usize, leaf: u64, value: Value)
-    ensures { objects.new ≡ changed_at (with_leaf leaf (value_of value)) objects.old
-        (slice_get objects.old index) index }
-{
-    if index < objects.len() {
-        let object = &mut objects[index];
-        object.set_leaf(leaf, value);
+        set_leaf_of(&mut self.objects, index, leaf, value);
     }
 }

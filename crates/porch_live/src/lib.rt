@@ -8,7 +8,9 @@
 mod entries;
 mod entry;
 mod object;
+mod store;
 mod value;
 
 pub use object::{Object, Root};
+pub use store::Store;
 pub use value::{Home, Value};

@@ -1,7 +1,8 @@
 //! Objects, each a root with the values of its leaves.
-ghost use Rattle.std.specs.Prelude.{◌≡◌, length, slice_set, slice_index_or, IfOk};
-ghost use Rattle.porch_objects.specs.Store.{indeterminate, with_leaves};
+ghost use Rattle.std.specs.Prelude.{◌≡◌, length, slice_get, slice_set, slice_index_or};
+ghost use Rattle.porch_objects.specs.Store.{indeterminate, with_leaves, changed_at};
 ghost use Rattle.porch_live.specs.Views.{value_of, root_of};
+ghost use Rattle.porch_live.specs.inside.Entries.{with_leaf};
 
 use crate::value::Value;
 use std::alloc::{AllocError, Global};
@@ -67,5 +68,16 @@ impl Object {
         if at < self.leaves.len() {
             self.leaves[at] = value;
         }
+    }
+}
+
+/// Gives a leaf of one of these objects a value, where it is there.
+pub(crate) fn set_leaf_of(objects: &mut [Object], index: usize, leaf: u64, value: Value)
+    ensures { objects.new ≡ changed_at (with_leaf leaf (value_of value)) objects.old
+        (slice_get objects.old index) index }
+{
+    if index < objects.len() {
+        let object = &mut objects[index];
+        object.set_leaf(leaf, value);
     }
 }

@@ -1,4 +1,7 @@
 //! Names of objects, and what a leaf holds.
+ghost use Rattle.std.specs.Prelude.{◌≡◌, if◌then◌else◌};
+ghost use Rattle.porch_objects.specs.Store.{indeterminate, is_good};
+ghost use Rattle.porch_live.specs.Views.{value_of};
 
 /// Which object: a global by its number, a variable of a call, or an allocation. Calls and allocations
 /// are counted over the whole run, all from 0.
@@ -15,7 +18,10 @@ pub enum Value {
     Number(i128),
     Null,
     /// The subobject that begins at a leaf of an object.
-    Pointer { home: Home, leaf: u64 },
+    Pointer {
+        home: Home,
+        leaf: u64,
+    },
     /// One past the subobject that begins at a leaf, which is the last of its row. Where that end is
     /// shared with the object that follows, it is good only as long as so many calls of checkpoint()
     /// were reached, and no more.
@@ -26,4 +32,20 @@ pub enum Value {
     },
     /// It was given no value, or has none any more.
     Indeterminate,
+}
+
+/// Whether an end that is good up to some count of checkpoints is so at this one.
+pub(crate) fn is_good(until: Option<u64>, checkpoints: u64) -> bool
+    ensures { result ≡ is_good until checkpoints }
+{
+    match until {
+        Some(until) => until == checkpoints,
+        None => true,
+    }
+}
+
+pub(crate) fn if_good(good: bool, value: Value) -> Value
+    ensures { value_of result ≡ (if good then value_of value else indeterminate) }
+{
+    if good { value } else { Value::Indeterminate }
 }

@@ -1,6 +1,6 @@
 -- Calls and allocations as one list, by rising number.
 use Rattle.std.specs.Prelude.{◌≡◌, ◌≢◌, ℕ, ◌+◌, ◌<◌, ◌≤◌, List, [], ◌∷◌, slice_get, slice_set, Some}
-use Rattle.porch_objects.specs.Store.{Value, Object, Activation, HeapObject, with_leaves}
+use Rattle.porch_objects.specs.Store.{Value, Object, Activation, HeapObject, Store, with_leaves}
 
 -- an object in which a leaf has become a value
 abbrev pub with_leaf : ℕ → Value → Object → Object
@@ -42,3 +42,22 @@ block_before number (object ∷ others) more = record { number = number; object 
 abbrev pub blocks_of : List Activation → List HeapObject
 blocks_of [] = []
 blocks_of (entry ∷ more) = block_before entry.number entry.variables (blocks_of more)
+
+-- the store of these globals, calls and allocations, with its counts
+abbrev pub store_in : List Object → List Activation → List Activation → ℕ → ℕ → ℕ → Store
+store_in globals calls blocks called allocated checkpoints =
+    record {
+      globals = globals;
+      calls = stacked calls [];
+      blocks = blocks_of blocks;
+      called = called;
+      allocated = allocated;
+      checkpoints = checkpoints;
+    }
+
+-- the calls and the allocations of a store stand by rising number, each below its count
+pub record AreEntries (calls blocks : List Activation) (called allocated : ℕ) : Type 0 where
+  pub calls_rising : IsRising 0 calls
+  pub calls_made : IsBelow called calls
+  pub blocks_rising : IsRising 0 blocks
+  pub blocks_made : IsBelow allocated blocks
