@@ -1,5 +1,5 @@
 -- The allocations of entries.
-use Rattle.std.proofs.Common.{◌≡◌, ℕ, ◌+◌, ◌<◌, true, false, nat_eq, List, [], ◌∷◌, Some, None, refl, ap, sym, ◌∙◌, inl, inr, slice_get}
+use Rattle.std.proofs.Common.{◌≡◌, ℕ, ◌+◌, ◌<◌, true, false, nat_eq, List, [], ◌∷◌, ◌++◌, Some, None, refl, ap, sym, ◌∙◌, inl, inr, slice_get}
 use Rattle.std.proofs.lemmas.Bool.Decides.{eqb_tells}
 use Rattle.std.specs.Prelude.{if◌then◌else◌}
 use Rattle.porch_objects.specs.Store.{Object, Activation, HeapObject, variables_in, block_in, changed_at, changed_calls, changed_blocks}
@@ -65,3 +65,14 @@ module _ (change : Object → Object) (n : ℕ) where
         | inr w ↦ change_elsewhere e.number e.variables (blocks_of es) w.0
             ∙ ap (λ (hs : List HeapObject). block_before e.number e.variables hs) (block_change (e.number + 1) es rising.1) ∙ (rw w.0 refl)
       ]
+
+-- one allocation more
+pub block_push : (es : List Activation) (n : ℕ) (o : Object) (e : Activation) → e ≡ record { number = n; variables = o ∷ [] }
+    → blocks_of (es ++ e ∷ []) ≡ blocks_of es ++ record { number = n; object = o } ∷ []
+block_push [] n o e is = rw is refl
+block_push (x ∷ es) n o e is =
+    ap (λ (hs : List HeapObject). block_before x.number x.variables hs) (block_push es n o e is) ∙ block_joined x.number x.variables (blocks_of es) _
+  where
+    block_joined : (number : ℕ) (vs : List Object) (more others : List HeapObject) → block_before number vs (more ++ others) ≡ block_before number vs more ++ others
+    block_joined number [] more others = refl
+    block_joined number (v ∷ vs) more others = refl

@@ -4,7 +4,7 @@ use Rattle.std.proofs.lemmas.Bool.Decides.{eqb_tells}
 use Rattle.std.proofs.lemmas.Option.{slice_get_within, slice_get_read}
 use Rattle.std.specs.Prelude.{slice_set}
 use Rattle.porch_objects.specs.Store.{Object, Activation, variables_in, changed_at, changed_calls}
-use Rattle.porch_live.specs.inside.Entries.{IsRising, StandsAt, HasNone, with_variables}
+use Rattle.porch_live.specs.inside.Entries.{IsRising, StandsAt, HasNone, with_variables, ended}
 use Rattle.porch_live.proofs.Rising.{rising_before}
 
 -- an earlier entry has another number
@@ -82,3 +82,31 @@ pub change_there : (change : Object → Object) (index : ℕ) (es : List Activat
 change_there change index es n k a rising stands read =
     let at = read_there es n k a stands read in
     ap (λ m. changed_calls change es m index) (sym at.1) ∙ found_change change index 0 es k a rising at.0
+
+found_end : (low : ℕ) (es : List Activation) (k : ℕ) (a : Activation) → IsRising low es → slice_get es k ≡ Some a
+    → ended es a.number ≡ slice_set es k (with_variables a [])
+found_end low [] k a rising there = cc
+found_end low (e ∷ es) zero a rising there =
+    elim (eqb_tells e.number a.number) [
+      | inl w ↦ rw w.0 (let same : e ≡ a = cc in ap (λ (x : Activation). with_variables x [] ∷ es) same)
+      | inr w ↦ absurd (w.1 (let same : e ≡ a = cc in ap (λ (x : Activation). x.number) same))
+    ]
+found_end low (e ∷ es) (suc k) a rising there =
+    elim (eqb_tells e.number a.number) [
+      | inl w ↦ absurd (earlier_differs low e es k a rising there w.1)
+      | inr w ↦ rw w.0 (ap (λ (xs : List Activation). e ∷ xs) (found_end (e.number + 1) es k a rising.1 there))
+    ]
+
+pub end_there : (es : List Activation) (n k : ℕ) (a : Activation) → IsRising 0 es → StandsAt es n k → a ≡ get_or es k a
+    → ended es n ≡ slice_set es k (with_variables a [])
+end_there es n k a rising stands read =
+    let at = read_there es n k a stands read in
+    ap (λ m. ended es m) (sym at.1) ∙ found_end 0 es k a rising at.0
+
+pub no_end : (es : List Activation) (n : ℕ) → HasNone es n → ended es n ≡ es
+no_end [] n none = refl
+no_end (e ∷ es) n none =
+    elim (eqb_tells e.number n) [
+      | inl w ↦ absurd (none.each 0 e refl w.1)
+      | inr w ↦ rw w.0 (ap (λ (xs : List Activation). e ∷ xs) (no_end es n (none_later e es n none)))
+    ]

@@ -3,3 +3,7 @@ pub mod Found
 pub mod Stacked
 pub mod Blocks
 pub mod Kept
+pub mod Unknown
+pub mod Leaves
+pub mod Ended
+pub mod Allocating

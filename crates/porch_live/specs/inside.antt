@@ -1,2 +1,3 @@
 -- What only the contracts of the crate's own functions cite.
 pub mod Entries
+pub mod Freeing

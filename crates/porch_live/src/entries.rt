@@ -1,9 +1,10 @@
 //! Entries by rising number: which one has a number, and the objects of it.
-ghost use Rattle.std.specs.Prelude.{◌≡◌, ℕ, ◌++◌, ◌∷◌, [], IfSome, IfNone, OnOk, OnErr, slice_get};
+ghost use Rattle.std.specs.Prelude.{◌≡◌, ℕ, ◌++◌, ◌∷◌, [], IfSome, IfNone, filter, OnOk, OnErr, slice_get};
 ghost use Rattle.std.specs.Option.{option_map};
 ghost use Rattle.porch_objects.specs.Store.{variables_in, changed_calls, innermost_in, callers_in};
+ghost use Rattle.porch_objects.specs.Pointers.{without_block};
 ghost use Rattle.porch_live.specs.Views.{value_of};
-ghost use Rattle.porch_live.specs.inside.Entries.{IsRising, IsBelow, StandsAt, HasNone, with_leaf, stacked};
+ghost use Rattle.porch_live.specs.inside.Entries.{IsRising, IsBelow, StandsAt, HasNone, with_leaf, stacked, blocks_of, ended, is_live};
 
 use crate::entry::Entry;
 use crate::object::Object;
@@ -70,9 +71,46 @@ pub(crate) fn remove_last(entries: &mut Vec<Entry>)
     let _ = entries.pop();
 }
 
+/// The allocation of an entry comes to its end. So many entries have none before, and as many as it
+/// answers afterwards: they go where they are more than half, so that what ended costs no memory for
+/// long, and no time to speak of.
+pub(crate) fn end_block(entries: &mut Vec<Entry>, number: u64, freed: usize) -> usize
+    requires { IsRising 0 entries.old.items }
+    ensures blocks { blocks_of entries.new.items
+        ≡ without_block (blocks_of entries.old.items) number }
+    ensures rising { IsRising 0 entries.new.items }
+    ensures below { (high : ℕ) → IsBelow high entries.old.items → IsBelow high entries.new.items }
+{
+    end(entries, number);
+    let freed = freed.saturating_add(1);
+    if freed > entries.len() / 2 {
+        remove_ended(entries);
+        return 0;
+    }
+    freed
+}
+
+/// The objects of an entry come to their end.
+fn end(entries: &mut Vec<Entry>, number: u64)
+    requires { IsRising 0 entries.old.items }
+    ensures { entries.new.items ≡ ended entries.old.items number }
+{
+    if let Some(at) = index_of(entries, number) {
+        let entry = &mut entries[at];
+        entry.end();
+    }
+}
+
+/// Entries without an object go.
+fn remove_ended(entries: &mut Vec<Entry>)
+    ensures { entries.new.items ≡ filter is_live entries.old.items }
+{
+    entries.retain(|entry| entry.is_live());
+}
+
 /// Where the entry of a number stands. The last one is asked first, which is the innermost call or the
 /// newest allocation; the others by halving.
-pub(crate) fn index_of(entries: &[Entry], number: u64) -> Option<usize>
+fn index_of(entries: &[Entry], number: u64) -> Option<usize>
     requires { IsRising 0 entries.now }
     ensures some { IfSome result (λ at. StandsAt entries.now number at) }
     ensures none { IfNone result (HasNone entries.now number) }

@@ -1,9 +1,9 @@
 //! The objects of one call or of one allocation, under its number.
-ghost use Rattle.std.specs.Prelude.{◌≡◌, slice_get, slice_set};
+ghost use Rattle.std.specs.Prelude.{◌≡◌, [], slice_get};
 ghost use Rattle.std.specs.Option.{option_map};
 ghost use Rattle.porch_objects.specs.Store.{changed_at};
 ghost use Rattle.porch_live.specs.Views.{value_of};
-ghost use Rattle.porch_live.specs.inside.Entries.{with_leaf, with_variables};
+ghost use Rattle.porch_live.specs.inside.Entries.{is_live, with_leaf, with_variables};
 
 use crate::object::{Object, set_leaf_of};
 use crate::value::Value;
@@ -49,5 +49,20 @@ impl Entry {
             self.old.variables (slice_get self.old.variables index) index) }
     {
         set_leaf_of(&mut self.objects, index, leaf, value);
+    }
+
+    /// Whether it has an object.
+    pub(crate) fn is_live(&self) -> bool
+        ensures { result ≡ is_live self.now }
+    {
+        !self.objects.is_empty()
+    }
+
+    /// Its objects come to their end.
+    pub(crate) fn end(&mut self)
+        ensures { self.new ≡ with_variables self.old [] }
+    {
+        let alloc = *self.objects.allocator();
+        self.objects = Vec::new(alloc);
     }
 }

@@ -8,6 +8,7 @@
 mod entries;
 mod entry;
 mod object;
+mod roots;
 mod store;
 mod value;
 

@@ -1,10 +1,13 @@
 //! Objects, each a root with the values of its leaves.
-ghost use Rattle.std.specs.Prelude.{◌≡◌, length, slice_get, slice_set, slice_index_or};
-ghost use Rattle.porch_objects.specs.Store.{indeterminate, with_leaves, changed_at};
+ghost use Rattle.std.specs.Prelude.{◌≡◌, ◌∷◌, [], length, slice_get, slice_set, slice_index_or, IfOk};
+ghost use Rattle.porch_objects.specs.Store.{indeterminate, with_leaves, changed_at, fresh, zeroed};
+ghost use Rattle.porch_objects.specs.Pointers.{block_of};
 ghost use Rattle.porch_live.specs.Views.{value_of, root_of};
 ghost use Rattle.porch_live.specs.inside.Entries.{with_leaf};
 
+use crate::roots::{leaves_in, zero_of};
 use crate::value::Value;
+use porch_types::Types;
 use std::alloc::{AllocError, Global};
 use std::marker::Model;
 
@@ -34,6 +37,27 @@ impl Model for Object {
 }
 
 impl Object {
+    /// An object that was given no value.
+    pub fn fresh(alloc: Global, types: &Types, root: Root) -> Result<Object, AllocError>
+        ensures { IfOk result (λ object. object ≡ fresh types.now (root_of root)) }
+    {
+        let mut leaves = Vec::new(alloc);
+        leaves.resize(leaves_in(types, root) as usize, Value::Indeterminate)?;
+        Ok(Object { root, leaves })
+    }
+
+    /// An object whose leaves are all 0 and null.
+    pub fn zeroed(alloc: Global, types: &Types, root: Root) -> Result<Object, AllocError>
+        ensures { IfOk result (λ object. object ≡ zeroed types.now (root_of root)) }
+    {
+        let count = leaves_in(types, root);
+        let mut leaves = Vec::with_capacity(alloc, count as usize)?;
+        for leaf in 0..count {
+            leaves.push(zero_of(types, types.leaf_type(root.ty, leaf)))?;
+        }
+        Ok(Object { root, leaves })
+    }
+
     /// The root.
     pub fn root(&self) -> Root
         ensures { root_of result ≡ self.now.root }
@@ -79,5 +103,31 @@ pub(crate) fn set_leaf_of(objects: &mut [Object], index: usize, leaf: u64, value
     if index < objects.len() {
         let object = &mut objects[index];
         object.set_leaf(leaf, value);
+    }
+}
+
+/// An object that is zero or without a value.
+pub(crate) fn new_object(
+    alloc: Global,
+    types: &Types,
+    zeros: bool,
+    root: Root,
+) -> Result<Object, AllocError>
+    ensures { IfOk result (λ object. object ≡ block_of types.now zeros (root_of root)) }
+{
+    if zeros {
+        Object::zeroed(alloc, types, root)
+    } else {
+        Object::fresh(alloc, types, root)
+    }
+}
+
+pub(crate) fn one_object(alloc: Global, object: Object) -> Result<Vec<Object>, AllocError>
+    ensures { IfOk result (λ objects. objects.items ≡ object ∷ []) }
+{
+    let mut objects = Vec::new(alloc);
+    match objects.push(object) {
+        Ok(()) => Ok(objects),
+        Err(_) => Err(AllocError),
     }
 }

@@ -1,13 +1,17 @@
 //! The store: what lives, and how calls, allocations and checkpoints are counted.
-ghost use Rattle.std.specs.Prelude.{◌≡◌, is_some, OnOk, OnErr};
+ghost use Rattle.std.specs.Prelude.{◌≡◌, is_some, IfOk, OnOk, OnErr};
 ghost use Rattle.std.specs.Option.{option_map};
-ghost use Rattle.porch_objects.specs.Store.{store_of, object_at, seen, leaf_at, with_leaf_at, innermost, entered, left, reached_one};
+ghost use Rattle.porch_objects.specs.Store.{store_of, object_at, seen, leaf_at, with_leaf_at, innermost, entered, left, reached_one, with_blocks};
+ghost use Rattle.porch_objects.specs.Pointers.{allocate, release, without_block};
+ghost use Rattle.porch_live.specs.Answers.{after, allocation_of};
 ghost use Rattle.porch_live.specs.Views.{home_of, value_of};
 
-use crate::entries::{last_number, object_in, push, remove_last, set_leaf_in};
+use crate::entries::{end_block, last_number, object_in, push, remove_last, set_leaf_in};
 use crate::entry::Entry;
-use crate::object::{Object, set_leaf_of};
-use crate::value::{Home, Value, if_good, is_good};
+use crate::object::{Object, Root, new_object, one_object, set_leaf_of};
+use crate::value::{Home, Value, block_to_free, count_of, if_good, is_good};
+use porch_types::Types;
+use porch_values::Act;
 use std::alloc::{AllocError, Global};
 use std::marker::Model;
 
@@ -23,6 +27,8 @@ pub struct Store {
     calls: Vec<Entry>,
     // by rising number; an entry without an object was freed
     blocks: Vec<Entry>,
+    // how many entries of blocks were freed
+    freed: usize,
     called: u64,
     allocated: u64,
     checkpoints: u64,
@@ -49,6 +55,7 @@ impl Store {
             globals,
             calls: Vec::new(alloc),
             blocks: Vec::new(alloc),
+            freed: 0,
             called: 0,
             allocated: 0,
             checkpoints: 0,
@@ -142,6 +149,63 @@ impl Store {
         ensures { self.new ≡ left self.old }
     {
         remove_last(&mut self.calls);
+    }
+
+    /// So many elements of a type come to life, zero or without a value: a pointer to the first of them.
+    /// `alloc` is the allocator. Answers the act `Count` where the count is below 1 or above
+    /// 2,147,483,647; then nothing changes.
+    pub fn allocate(
+        &mut self,
+        alloc: Global,
+        types: &Types,
+        ty: u32,
+        zeros: bool,
+        count: i128,
+    ) -> Result<Result<Value, Act>, AllocError>
+        ensures allocated { IfOk result (λ answer. allocation_of answer self.new
+            ≡ allocate types.now ty zeros count self.old) }
+        ensures refused { IfOk result (λ answer. OnErr answer (self.new ≡ self.old)) }
+        ensures same { OnErr result (self.new ≡ self.old) }
+    {
+        let Some(count) = count_of(count) else {
+            return Ok(Err(Act::Count));
+        };
+        if self.allocated == u64::MAX {
+            return Err(AllocError);
+        }
+        let object = new_object(alloc, types, zeros, Root { ty, count })?;
+        let number = self.allocated;
+        push(
+            &mut self.blocks,
+            Entry::new(number, one_object(alloc, object)?),
+        )?;
+        self.allocated += 1;
+        Ok(Ok(Value::Pointer {
+            home: Home::Block(number),
+            leaf: 0,
+        }))
+    }
+
+    /// The object that a pointer to its first leaf names comes to its end; null names none. Where it
+    /// answers an act, nothing changes.
+    pub fn release(&mut self, pointer: Value) -> Result<(), Act>
+        ensures released { after result self.new ≡ release self.old (value_of pointer) }
+        ensures same { OnErr result (self.new ≡ self.old) }
+    {
+        match block_to_free(self.seen(pointer)) {
+            Ok(Some(block)) => {
+                self.end_block(block);
+                Ok(())
+            }
+            Ok(None) => Ok(()),
+            Err(act) => Err(act),
+        }
+    }
+
+    fn end_block(&mut self, block: u64)
+        ensures { self.new ≡ with_blocks self.old (without_block self.old.blocks block) }
+    {
+        self.freed = end_block(&mut self.blocks, block, self.freed);
     }
 
     /// One more checkpoint() was reached.

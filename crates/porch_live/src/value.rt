@@ -2,6 +2,9 @@
 ghost use Rattle.std.specs.Prelude.{◌≡◌, if◌then◌else◌};
 ghost use Rattle.porch_objects.specs.Store.{indeterminate, is_good};
 ghost use Rattle.porch_live.specs.Views.{value_of};
+ghost use Rattle.porch_live.specs.inside.Freeing.{block_to_free, count_of};
+
+use porch_values::Act;
 
 /// Which object: a global by its number, a variable of a call, or an allocation. Calls and allocations
 /// are counted over the whole run, all from 0.
@@ -48,4 +51,47 @@ pub(crate) fn if_good(good: bool, value: Value) -> Value
     ensures { value_of result ≡ (if good then value_of value else indeterminate) }
 {
     if good { value } else { Value::Indeterminate }
+}
+
+/// The allocation that such a pointer frees; none for null.
+pub(crate) fn block_to_free(pointer: Value) -> Result<Option<u64>, Act>
+    ensures { result ≡ block_to_free (value_of pointer) }
+{
+    match pointer {
+        Value::Number(_) => Err(Act::Free),
+        Value::Null => Ok(None),
+        Value::Pointer { home, leaf } => {
+            match home {
+                Home::Global(_) => Err(Act::Free),
+                Home::Call {
+                    call: _,
+                    variable: _,
+                } => Err(Act::Free),
+                Home::Block(block) => {
+                    if leaf == 0 {
+                        Ok(Some(block))
+                    } else {
+                        Err(Act::Free)
+                    }
+                }
+            }
+        }
+        Value::Past {
+            home: _,
+            leaf: _,
+            until: _,
+        } => Err(Act::Free),
+        Value::Indeterminate => Err(Act::Indeterminate),
+    }
+}
+
+/// A count of elements, where it may be one.
+pub(crate) fn count_of(count: i128) -> Option<u32>
+    ensures { result ≡ count_of count }
+{
+    if count < 1 || count > 2_147_483_647 {
+        None
+    } else {
+        Some(count as u32)
+    }
 }

@@ -1,5 +1,5 @@
 -- Calls and allocations as one list, by rising number.
-use Rattle.std.specs.Prelude.{◌≡◌, ◌≢◌, ℕ, ◌+◌, ◌<◌, ◌≤◌, List, [], ◌∷◌, slice_get, slice_set, Some}
+use Rattle.std.specs.Prelude.{◌≡◌, ◌≢◌, ℕ, ◌+◌, ◌<◌, ◌≤◌, List, [], ◌∷◌, slice_get, slice_set, length, Bool, not, nat_eq, if◌then◌else◌, Some}
 use Rattle.porch_objects.specs.Store.{Value, Object, Activation, HeapObject, Store, with_leaves}
 
 -- an object in which a leaf has become a value
@@ -42,6 +42,15 @@ block_before number (object ∷ others) more = record { number = number; object 
 abbrev pub blocks_of : List Activation → List HeapObject
 blocks_of [] = []
 blocks_of (entry ∷ more) = block_before entry.number entry.variables (blocks_of more)
+
+-- whether an entry has an object
+abbrev pub is_live : Activation → Bool
+is_live entry = not (nat_eq (length entry.variables) 0)
+
+-- the entries without the objects of one of them
+abbrev pub ended : List Activation → ℕ → List Activation
+ended [] number = []
+ended (entry ∷ more) number = if nat_eq entry.number number then with_variables entry [] ∷ more else entry ∷ ended more number
 
 -- the store of these globals, calls and allocations, with its counts
 abbrev pub store_in : List Object → List Activation → List Activation → ℕ → ℕ → ℕ → Store
