@@ -5,9 +5,11 @@
 //! and no less. Only what lives is kept, and an object is found in the logarithm of what lives.
 #![tactic(auto)]
 
+mod comparisons;
 mod entries;
 mod entry;
 mod object;
+mod pointers;
 mod roots;
 mod store;
 mod value;

@@ -2,7 +2,9 @@
 ghost use Rattle.std.specs.Prelude.{◌≡◌, if◌then◌else◌};
 ghost use Rattle.porch_objects.specs.Store.{indeterminate, is_good};
 ghost use Rattle.porch_live.specs.Views.{value_of};
-ghost use Rattle.porch_live.specs.inside.Freeing.{block_to_free, count_of};
+ghost use Rattle.porch_live.specs.inside.Freeing.{access_after, block_to_free, count_of, there};
+ghost use Rattle.porch_live.specs.Answers.{value_in};
+ghost use Rattle.porch_objects.specs.Pointers.{if_there};
 
 use porch_values::Act;
 
@@ -93,5 +95,39 @@ pub(crate) fn count_of(count: i128) -> Option<u32>
         None
     } else {
         Some(count as u32)
+    }
+}
+
+/// A value that is there.
+pub(crate) fn determined(value: Value) -> Result<Value, Act>
+    ensures { value_in result ≡ if_there (value_of value) there }
+{
+    match value {
+        Value::Indeterminate => Err(Act::Indeterminate),
+        Value::Number(_) => Ok(value),
+        Value::Null => Ok(value),
+        Value::Pointer { home: _, leaf: _ } => Ok(value),
+        Value::Past {
+            home: _,
+            leaf: _,
+            until: _,
+        } => Ok(value),
+    }
+}
+
+/// The act where a value is used at no place.
+pub(crate) fn access_after(value: Value) -> Act
+    ensures { result ≡ access_after (value_of value) }
+{
+    match value {
+        Value::Indeterminate => Act::Indeterminate,
+        Value::Number(_) => Act::Access,
+        Value::Null => Act::Access,
+        Value::Pointer { home: _, leaf: _ } => Act::Access,
+        Value::Past {
+            home: _,
+            leaf: _,
+            until: _,
+        } => Act::Access,
     }
 }

@@ -18,3 +18,15 @@ block_to_free indeterminate = Err act.Indeterminate
 -- how many elements are allocated, where so many may be
 abbrev pub count_of : ℤ → Option ℕ
 count_of z = if int_lt z (pos 1) || int_lt (pos MOST_COUNT) z then None else Some (unsigned_abs z)
+
+-- a value that is there
+abbrev pub there : Value → Result Value Act
+there v = Ok v
+
+-- the act where a value is used at no place
+abbrev pub access_after : Value → Act
+access_after indeterminate = act.Indeterminate
+access_after (number z) = act.Access
+access_after null = act.Access
+access_after (pointer home leaf) = act.Access
+access_after (past home leaf until) = act.Access
