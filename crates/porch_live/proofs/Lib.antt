@@ -7,3 +7,4 @@ pub mod Unknown
 pub mod Leaves
 pub mod Ended
 pub mod Allocating
+pub mod Used

@@ -2,3 +2,4 @@
 pub mod Entries
 pub mod Freeing
 pub mod Rows
+pub mod Positions

@@ -10,6 +10,7 @@ mod entries;
 mod entry;
 mod object;
 mod pointers;
+mod positions;
 mod roots;
 mod store;
 mod value;

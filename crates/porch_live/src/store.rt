@@ -208,6 +208,13 @@ impl Store {
         self.freed = end_block(&mut self.blocks, block, self.freed);
     }
 
+    /// How many calls of checkpoint() were reached.
+    pub fn checkpoints(&self) -> u64
+        ensures { result ≡ self.now.checkpoints }
+    {
+        self.checkpoints
+    }
+
     /// One more checkpoint() was reached.
     pub fn reach_checkpoint(&mut self) -> Result<(), AllocError>
         ensures reached { OnOk result (self.new ≡ reached_one self.old) }
