@@ -8,3 +8,5 @@ pub mod Leaves
 pub mod Ended
 pub mod Allocating
 pub mod Used
+pub mod Parts
+pub mod Copying

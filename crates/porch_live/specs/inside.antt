@@ -3,3 +3,5 @@ pub mod Entries
 pub mod Freeing
 pub mod Rows
 pub mod Positions
+pub mod Edits
+pub mod Places

@@ -6,9 +6,11 @@
 #![tactic(auto)]
 
 mod comparisons;
+mod edit;
 mod entries;
 mod entry;
 mod object;
+mod places;
 mod pointers;
 mod positions;
 mod roots;

@@ -2,10 +2,6 @@
 use Rattle.std.specs.Prelude.{◌≡◌, ◌≢◌, ℕ, ◌+◌, ◌<◌, ◌≤◌, List, [], ◌∷◌, slice_get, slice_set, length, Bool, not, nat_eq, if◌then◌else◌, Some}
 use Rattle.porch_objects.specs.Store.{Value, Object, Activation, HeapObject, Store, with_leaves}
 
--- an object in which a leaf has become a value
-abbrev pub with_leaf : ℕ → Value → Object → Object
-with_leaf leaf v object = with_leaves object (slice_set object.leaves leaf v)
-
 abbrev pub with_variables : Activation → List Object → Activation
 with_variables entry variables = record { number = entry.number; variables = variables }
 

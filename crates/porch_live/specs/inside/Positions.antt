@@ -14,6 +14,8 @@ view_of p = record { home = home_of p.home; row = p.row; index = p.index }
 -- the position lies at small numbers
 pub record IsNearPosition (types : List Ty) (pointee : ℕ) (p : Position) : Type 0 where
   pub small : p.index ≤ 2 ^ 53
+  pub begun : p.row.first ≤ 2 ^ 52
+  pub short : p.row.len ≤ 2 ^ 52
   pub ended : p.row.first + p.row.len * leaves_of types pointee ≤ 2 ^ 52
 
 -- the position of the element at a leaf of a row, or so many behind it
