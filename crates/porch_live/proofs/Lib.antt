@@ -10,3 +10,4 @@ pub mod Allocating
 pub mod Used
 pub mod Parts
 pub mod Copying
+pub mod BytesOfTexts

@@ -5,3 +5,4 @@ pub mod Rows
 pub mod Positions
 pub mod Edits
 pub mod Places
+pub mod Texts

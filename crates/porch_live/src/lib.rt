@@ -15,6 +15,7 @@ mod pointers;
 mod positions;
 mod roots;
 mod store;
+mod texts;
 mod value;
 
 pub use object::{Object, Root};

@@ -21,9 +21,9 @@ use porch_values::Act;
 /// row's length where it is one past.
 #[derive(Clone, Copy)]
 pub(crate) struct Position {
-    home: Home,
-    row: Row,
-    index: u64,
+    pub(crate) home: Home,
+    pub(crate) row: Row,
+    pub(crate) index: u64,
 }
 
 impl Store {
