@@ -1,18 +1,15 @@
 -- A text, byte by byte.
-use Rattle.std.proofs.Common.{◌≡◌, ◌≢◌, ℕ, zero, suc, ◌+◌, ◌-◌, ◌<◌, ◌≤◌, Bool, true, false, nat_eq, List, [], ◌∷◌, ◌++◌, Option, Some, None, Result, Ok, Err, refl, inl, inr, sym, ap, ◌∙◌, append_assoc, arith}
+use Rattle.std.proofs.Common.{◌≡◌, ◌≢◌, ℕ, suc, ◌+◌, ◌-◌, ◌<◌, Bool, false, nat_eq, List, [], ◌∷◌, ◌++◌, Result, Ok, Err, refl, inl, inr, sym, ap, ◌∙◌, append_assoc, arith}
 use Rattle.std.proofs.lemmas.Bool.{eq-eqb}
 use Rattle.std.proofs.lemmas.Bool.Decides.{eqb_tells}
 use Rattle.std.proofs.lemmas.List.{append-nil}
 use Rattle.std.specs.Prelude.{if◌then◌else◌}
 use Rattle.porch_types.specs.declared.shapes.Ty.{Ty}
 use Rattle.porch_values.specs.declared.acts.Act.{Act}
-use Rattle.porch_values.specs.declared.acts.Act.TheVariants as act
 use Rattle.porch_objects.specs.Meaning.{byte_of}
 use Rattle.porch_objects.specs.Store.{Home, Value, number, null, pointer, past, indeterminate, Store, seen, leaf_at}
-use Rattle.porch_objects.specs.Pointers.{Position, if_there, if_number, with_byte, text_from, text_in, text, position_of}
-use Rattle.porch_live.specs.inside.Freeing.{there}
+use Rattle.porch_objects.specs.Pointers.{if_there, if_number, with_byte, text_from}
 use Rattle.porch_live.specs.inside.Texts.{byte_in, with_bytes}
-use Rattle.porch_live.proofs.Used.{goes_on}
 
 differs : (a b : ℕ) → a ≢ b → nat_eq a b ≡ false
 differs a b other = elim (eqb_tells a b) [ inl w ↦ absurd (other w.1) | inr w ↦ w.0 ]
@@ -86,11 +83,3 @@ module _ (types : List Ty) (pointee : ℕ) (s : Store) (home : Home) where
         ∙ ap (λ b. picked b byte (text_from types pointee s home (start + ahead + 1) (count - (ahead + 1)))) (differs byte 0 more))
         ∙ after_byte byte (text_from types pointee s home (start + ahead + 1) (count - (ahead + 1)))
         ∙ ap (λ n. with_bytes (bytes ++ byte ∷ []) (text_from types pointee s home n (count - (ahead + 1)))) (let same : start + ahead + 1 ≡ start + (ahead + 1) = omega arith in same)
-
-    pub at_end : count ≤ ahead → with_bytes bytes from_here ≡ Err act.Access
-    at_end all = ap (λ n. with_bytes bytes (text_from types pointee s home (start + ahead) n)) (let none : count - ahead ≡ 0 = omega (arith, all) in none)
-
-pub text_at : (types : List Ty) (pointee : ℕ) (s : Store) (p v : Value) (o : Option Position) → Ok v ≡ if_there (seen s p) there
-    → o ≡ position_of types pointee s v → text_in types pointee s o ≡ text types pointee s p
-text_at types pointee s p v o first at =
-    rw at (sym (goes_on (λ p. text_in types pointee s (position_of types pointee s p)) (seen s p) v first))

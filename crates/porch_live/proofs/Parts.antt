@@ -1,8 +1,7 @@
 -- Leaves of an object that become others.
-use Rattle.std.proofs.Common.{◌≡◌, ℕ, ◌+◌, ◌≤◌, true, false, Bool, nat_le, List, ◌++◌, length, map, take, drop, refl, inl, inr, sym, ap, ◌∙◌, arith}
+use Rattle.std.proofs.Common.{◌≡◌, ℕ, ◌+◌, ◌≤◌, true, nat_le, List, ◌++◌, length, map, take, drop, inl, inr, sym, ap, ◌∙◌, arith}
 use Rattle.std.proofs.lemmas.List.{map-append, take-map, drop-map, length-map}
 use Rattle.std.proofs.lemmas.Bool.Decides.{leb_tells}
-use Rattle.std.specs.Prelude.{if◌then◌else◌}
 use Rattle.porch_objects.specs.Store as store
 use Rattle.porch_objects.specs.Store.{with_leaves}
 use Rattle.porch_objects.specs.Pointers.{spliced}

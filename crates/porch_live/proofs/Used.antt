@@ -1,6 +1,5 @@
 -- What is done with values that are there.
-use Rattle.std.proofs.Common.{◌≡◌, ℕ, List, Option, Result, Ok, Err, refl, sym, ap, ◌∙◌}
-use Rattle.std.specs.Prelude.{ℤ}
+use Rattle.std.proofs.Common.{◌≡◌, ℕ, List, Option, Result, Ok, sym, ap, ◌∙◌}
 use Rattle.porch_types.specs.declared.shapes.Ty.{Ty}
 use Rattle.porch_values.specs.declared.acts.Act.{Act}
 use Rattle.porch_objects.specs.Store.{Value, number, null, pointer, past, indeterminate, Store, seen}

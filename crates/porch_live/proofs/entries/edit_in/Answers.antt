@@ -3,7 +3,7 @@ use Rattle.std.specs.Prelude.{slice_set}
 use Rattle.porch_objects.specs.Store.{Activation}
 use Rattle.porch_live.specs.inside.Edits.{edited}
 use Rattle.porch_live.specs.inside.Entries.{StandsAt, HasNone}
-use Rattle.porch_live.proofs.Found.{changed_entry, change_there, no_change}
+use Rattle.porch_live.proofs.Found.{change_there, no_change}
 use Rattle.porch_live.proofs.entries.edit_in.Goals as goal
 
 pub returns-in-Some : goal.returns-in-Some

@@ -1,5 +1,4 @@
-use Rattle.std.proofs.Common.{List, map, take, drop, ap, ◌∙◌}
-use Rattle.porch_objects.specs.Store as store
+use Rattle.std.proofs.Common.{map, take, drop, ap, ◌∙◌}
 use Rattle.porch_live.specs.Views.{value_of}
 use Rattle.porch_live.proofs.Parts.{seen_taken}
 use Rattle.porch_live.proofs.object.Object.leaves_from.Goals as goal

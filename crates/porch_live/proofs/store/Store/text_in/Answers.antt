@@ -1,4 +1,4 @@
-use Rattle.std.proofs.Common.{◌≡◌, ◌+◌, ◌-◌, List, ℕ, sym, ap, ◌∙◌}
+use Rattle.std.proofs.Common.{◌+◌, ◌-◌, List, ℕ, sym, ap, ◌∙◌}
 use Rattle.porch_objects.specs.Store.{seen}
 use Rattle.porch_objects.specs.Pointers.{text_from}
 use Rattle.porch_live.specs.Views.{home_of}
