@@ -60,6 +60,16 @@ fn leaves_are_read_and_written(rt: HostRuntime) -> Result<(), Fail> {
     let alloc = rt.alloc();
     let types = types_with_arrays(alloc)?;
     let mut store = store_with_globals(alloc, &types)?;
+    try_leaves(&rt, alloc, &types, &mut store)?;
+    Ok(())
+}
+
+fn try_leaves<R: Abort>(
+    rt: &R,
+    alloc: Global,
+    types: &Types,
+    store: &mut Store,
+) -> Result<(), AllocError> {
     assert!(rt; matches!(store.load(global(0, 1)), Err(Act::Indeterminate)));
     assert!(rt; matches!(store.load(Value::Null), Err(Act::Access)));
     assert!(rt; matches!(store.store(global(0, 1), Value::Number(5)), Ok(())));
@@ -91,20 +101,30 @@ fn pointers_stay_in_their_rows(rt: HostRuntime) -> Result<(), Fail> {
     let alloc = rt.alloc();
     let types = types_with_arrays(alloc)?;
     let mut store = store_with_globals(alloc, &types)?;
+    try_rows(&rt, alloc, &types, &mut store)?;
+    Ok(())
+}
+
+fn try_rows<R: Abort>(
+    rt: &R,
+    alloc: Global,
+    types: &Types,
+    store: &mut Store,
+) -> Result<(), AllocError> {
     let first = global(0, 0);
     assert!(rt;
         matches!(
-            store.step(&types, INT, first, 2),
+            store.step(types, INT, first, 2),
             Ok(Value::Pointer {
                 home: Home::Global(0),
                 leaf: 2
             })
         )
     );
-    assert!(rt; matches!(store.step(&types, INT, first, 4), Err(Act::Row)));
-    assert!(rt; matches!(store.step(&types, INT, first, -1), Err(Act::Row)));
-    assert!(rt; matches!(store.step(&types, INT, first, i128::MAX), Err(Act::Row)));
-    assert!(rt; matches!(store.step(&types, INT, Value::Null, 0), Err(Act::Row)));
+    assert!(rt; matches!(store.step(types, INT, first, 4), Err(Act::Row)));
+    assert!(rt; matches!(store.step(types, INT, first, -1), Err(Act::Row)));
+    assert!(rt; matches!(store.step(types, INT, first, i128::MAX), Err(Act::Row)));
+    assert!(rt; matches!(store.step(types, INT, Value::Null, 0), Err(Act::Row)));
     assert!(rt;
         matches!(
             store.member(first, 2)?,
@@ -115,16 +135,16 @@ fn pointers_stay_in_their_rows(rt: HostRuntime) -> Result<(), Fail> {
         )
     );
     assert!(rt; matches!(store.member(Value::Null, 2)?, Err(Act::Access)));
-    assert!(rt; matches!(store.difference(&types, INT, global(0, 2), first), Ok(2)));
+    assert!(rt; matches!(store.difference(types, INT, global(0, 2), first), Ok(2)));
     assert!(rt;
         matches!(
-            store.difference(&types, INT, global(0, 3), first),
+            store.difference(types, INT, global(0, 3), first),
             Err(Act::Relation)
         )
     );
-    assert!(rt; matches!(store.equality(&types, INT, first, first), Ok(true)));
-    assert!(rt; matches!(store.equality(&types, INT, first, Value::Null), Ok(false)));
-    let end = store.step(&types, INT, first, 3).expect(&rt, "no act");
+    assert!(rt; matches!(store.equality(types, INT, first, first), Ok(true)));
+    assert!(rt; matches!(store.equality(types, INT, first, Value::Null), Ok(false)));
+    let end = store.step(types, INT, first, 3).expect(rt, "no act");
     assert!(rt;
         matches!(
             end,
@@ -137,7 +157,7 @@ fn pointers_stay_in_their_rows(rt: HostRuntime) -> Result<(), Fail> {
     );
     assert!(rt;
         matches!(
-            store.equality(&types, INT, end, global(0, 3)),
+            store.equality(types, INT, end, global(0, 3)),
             Err(Act::Compare)
         )
     );
@@ -153,27 +173,37 @@ fn texts_end_at_a_zero_byte(rt: HostRuntime) -> Result<(), Fail> {
     let alloc = rt.alloc();
     let types = types_with_arrays(alloc)?;
     let mut store = store_with_globals(alloc, &types)?;
+    try_texts(&rt, alloc, &types, &mut store)?;
+    Ok(())
+}
+
+fn try_texts<R: Abort>(
+    rt: &R,
+    alloc: Global,
+    types: &Types,
+    store: &mut Store,
+) -> Result<(), AllocError> {
     let text = store
-        .text(alloc, &types, CHAR, global(1, 0))?
-        .expect(&rt, "no act");
+        .text(alloc, types, CHAR, global(1, 0))?
+        .expect(rt, "no act");
     assert!(rt; text.as_slice() == b"hi".as_slice());
     store.set_leaf(Home::Global(1), 2, Value::Number(33));
     assert!(rt;
         matches!(
-            store.text(alloc, &types, CHAR, global(1, 0))?,
+            store.text(alloc, types, CHAR, global(1, 0))?,
             Err(Act::Access)
         )
     );
     store.set_leaf(Home::Global(1), 1, Value::Indeterminate);
     assert!(rt;
         matches!(
-            store.text(alloc, &types, CHAR, global(1, 0))?,
+            store.text(alloc, types, CHAR, global(1, 0))?,
             Err(Act::Indeterminate)
         )
     );
     assert!(rt;
         matches!(
-            store.text(alloc, &types, CHAR, Value::Null)?,
+            store.text(alloc, types, CHAR, Value::Null)?,
             Err(Act::Access)
         )
     );
@@ -181,15 +211,25 @@ fn texts_end_at_a_zero_byte(rt: HostRuntime) -> Result<(), Fail> {
 }
 
 #[test]
-fn calls_and_allocations_come_and_go(rt: HostRuntime) -> Result<(), Fail> {
+fn calls_come_and_go(rt: HostRuntime) -> Result<(), Fail> {
     let alloc = rt.alloc();
     let types = types_with_arrays(alloc)?;
     let mut store = store_with_globals(alloc, &types)?;
+    try_calls(&rt, alloc, &types, &mut store)?;
+    Ok(())
+}
+
+fn try_calls<R: Abort>(
+    rt: &R,
+    alloc: Global,
+    types: &Types,
+    store: &mut Store,
+) -> Result<(), AllocError> {
     assert!(rt; store.innermost() == 0);
     let mut variables = Vec::new(alloc);
     push(
         &mut variables,
-        Object::fresh(alloc, &types, Root { ty: INT, count: 1 })?,
+        Object::fresh(alloc, types, Root { ty: INT, count: 1 })?,
     )?;
     store.enter(variables)?;
     store.enter(Vec::new(alloc))?;
@@ -211,24 +251,37 @@ fn calls_and_allocations_come_and_go(rt: HostRuntime) -> Result<(), Fail> {
     assert!(rt; !store.is_alive(outer));
     assert!(rt; matches!(store.load(variable), Err(Act::Indeterminate)));
     store.leave();
+    Ok(())
+}
+
+#[test]
+fn allocations_come_and_go(rt: HostRuntime) -> Result<(), Fail> {
+    let alloc = rt.alloc();
+    let types = types_with_arrays(alloc)?;
+    let mut store = store_with_globals(alloc, &types)?;
+    try_allocations(&rt, alloc, &types, &mut store)?;
+    Ok(())
+}
+
+fn try_allocations<R: Abort>(
+    rt: &R,
+    alloc: Global,
+    types: &Types,
+    store: &mut Store,
+) -> Result<(), AllocError> {
+    assert!(rt; matches!(store.allocate(alloc, types, INT, true, 0)?, Err(Act::Count)));
     assert!(rt;
         matches!(
-            store.allocate(alloc, &types, INT, true, 0)?,
-            Err(Act::Count)
-        )
-    );
-    assert!(rt;
-        matches!(
-            store.allocate(alloc, &types, INT, true, 2_147_483_648)?,
+            store.allocate(alloc, types, INT, true, 2_147_483_648)?,
             Err(Act::Count)
         )
     );
     let block = store
-        .allocate(alloc, &types, INT, true, 2)?
-        .expect(&rt, "no act");
+        .allocate(alloc, types, INT, true, 2)?
+        .expect(rt, "no act");
     let other = store
-        .allocate(alloc, &types, 8, false, 1)?
-        .expect(&rt, "no act");
+        .allocate(alloc, types, 8, false, 1)?
+        .expect(rt, "no act");
     assert!(rt;
         matches!(
             block,
