@@ -6,7 +6,7 @@ use Rattle.porch_values.specs.declared.acts.Act.{Act}
 use Rattle.porch_values.specs.declared.acts.Act.TheVariants as act
 use Rattle.porch_objects.specs.Store.{of_block, pointer, Store}
 use Rattle.porch_objects.specs.Pointers.{Allocation, MOST_COUNT, allocate, with_block, block_of}
-use Rattle.porch_live.specs.inside.Freeing.{count_of}
+use Rattle.porch_live.specs.inside.Uses.{count_of}
 
 abbrev pub made : List Ty → ℕ → Bool → Store → ℕ → Allocation
 made types ty zeros s n = record { address = pointer (of_block s.allocated) 0; store = with_block s (block_of types zeros (record { ty = ty; count = n })) }

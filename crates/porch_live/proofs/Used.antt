@@ -4,7 +4,7 @@ use Rattle.porch_types.specs.declared.shapes.Ty.{Ty}
 use Rattle.porch_values.specs.declared.acts.Act.{Act}
 use Rattle.porch_objects.specs.Store.{Value, number, null, pointer, past, indeterminate, Store, seen}
 use Rattle.porch_objects.specs.Pointers.{Position, if_there, position_of, between, difference}
-use Rattle.porch_live.specs.inside.Freeing.{there}
+use Rattle.porch_live.specs.inside.Uses.{there}
 
 module _ {A : Type 0} (go : Value → Result A Act) where
   pub goes_on : (v w : Value) → Ok w ≡ if_there v there → if_there v go ≡ go w

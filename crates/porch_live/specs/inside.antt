@@ -1,6 +1,6 @@
 -- What only the contracts of the crate's own functions cite.
 pub mod Entries
-pub mod Freeing
+pub mod Uses
 pub mod Rows
 pub mod Positions
 pub mod Edits

@@ -66,8 +66,8 @@ pub(crate) fn remove_last(entries: &mut Vec<Entry>)
 }
 
 /// The allocation of an entry comes to its end. So many entries have none before, and as many as it
-/// answers afterwards: they go where they are more than half, so that what ended costs no memory for
-/// long, and no time to speak of.
+/// answers afterwards: they go where they are more than half, so that what ended costs no memory
+/// for long, and no time to speak of.
 pub(crate) fn end_block(entries: &mut Vec<Entry>, number: u64, freed: usize) -> usize
     requires { IsRising 0 entries.old.items }
     ensures blocks { blocks_of entries.new.items
@@ -102,8 +102,8 @@ fn remove_ended(entries: &mut Vec<Entry>)
     entries.retain(|entry| entry.is_live());
 }
 
-/// Where the entry of a number stands. The last one is asked first, which is the innermost call or the
-/// newest allocation; the others by halving.
+/// Where the entry of a number stands. The last one is asked first, which is the innermost call or
+/// the newest allocation; the others by halving.
 fn index_of(entries: &[Entry], number: u64) -> Option<usize>
     requires { IsRising 0 entries.now }
     ensures some { IfSome result (λ at. StandsAt entries.now number at) }

@@ -87,7 +87,8 @@ impl Object {
 
     /// Gives a leaf a value. Behind the last leaf nothing changes.
     pub fn set_leaf(&mut self, leaf: u64, value: Value)
-        ensures { self.new ≡ with_leaves self.old (slice_set self.old.leaves leaf (value_of value)) }
+        ensures { self.new
+            ≡ with_leaves self.old (slice_set self.old.leaves leaf (value_of value)) }
     {
         let at = leaf as usize;
         if at < self.leaves.len() {

@@ -35,7 +35,8 @@ impl Store {
 
     /// Gives the leaf that a pointer names a value. Where it answers an act, nothing changes.
     pub fn store(&mut self, pointer: Value, value: Value) -> Result<(), Act>
-        ensures stored { after result self.new ≡ store self.old (value_of pointer) (value_of value) }
+        ensures stored { after result self.new
+            ≡ store self.old (value_of pointer) (value_of value) }
         ensures same { OnErr result (self.new ≡ self.old) }
     {
         let value = self.seen(value);
@@ -60,8 +61,8 @@ impl Store {
         }
     }
 
-    /// The subobject that begins so many leaves behind the beginning of what a pointer names. Answers
-    /// `AllocError` where the number of that leaf would pass 2^64 - 1.
+    /// The subobject that begins so many leaves behind the beginning of what a pointer names.
+    /// Answers `AllocError` where the number of that leaf would pass 2^64 - 1.
     pub fn member(&self, pointer: Value, leaf: u32) -> Result<Result<Value, Act>, AllocError>
         ensures { IfOk result (λ answer. value_in answer
             ≡ member self.now (value_of pointer) leaf) }

@@ -27,7 +27,8 @@ pub(crate) struct Position {
 }
 
 impl Store {
-    /// A pointer to a type goes forward by so many elements, or back: within its row and to its end.
+    /// A pointer to a type goes forward by so many elements, or back: within its row and to its
+    /// end.
     pub fn step(&self, types: &Types, pointee: u32, p: Value, z: i128) -> Result<Value, Act>
         ensures { value_in result ≡ step types.now pointee self.now (value_of p) z }
     {

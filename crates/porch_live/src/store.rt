@@ -17,11 +17,11 @@ use porch_values::Act;
 use std::alloc::{AllocError, Global};
 use std::marker::Model;
 
-/// What lives: the globals, the calls that haven't returned with their variables, and the allocations
-/// that weren't freed. Contracts see it as the store of `porch_objects`.
+/// What lives: the globals, the calls that haven't returned with their variables, and the
+/// allocations that weren't freed. Contracts see it as the store of `porch_objects`.
 ///
-/// Calls, allocations and checkpoints are counted in 64 bits. Where a count would pass 2^64 - 1, the
-/// call answers `AllocError`, and nothing changes.
+/// Calls, allocations and checkpoints are counted in 64 bits. Where a count would pass 2^64 - 1,
+/// the call answers `AllocError`, and nothing changes.
 #[derive(Drop)]
 pub struct Store {
     globals: Vec<Object>,
@@ -43,7 +43,8 @@ impl Model for Store {
 
     ghost use Rattle.porch_live.specs.inside.Entries.{store_in, AreEntries};
 
-    ghost view = { λ s. store_in s.globals.items s.calls.items s.blocks.items s.called s.allocated s.checkpoints };
+    ghost view = { λ s. store_in s.globals.items s.calls.items s.blocks.items
+        s.called s.allocated s.checkpoints };
 
     ghost invariant = { λ s. AreEntries s.calls.items s.blocks.items s.called s.allocated };
 }
@@ -82,8 +83,8 @@ impl Store {
         self.object(home).is_some()
     }
 
-    /// A value as it is seen now: a pointer to an object that doesn't live, or one past a shared end
-    /// over a checkpoint(), is indeterminate.
+    /// A value as it is seen now: a pointer to an object that doesn't live, or one past a shared
+    /// end over a checkpoint(), is indeterminate.
     pub fn seen(&self, value: Value) -> Value
         ensures { value_of result ≡ seen self.now (value_of value) }
     {
@@ -160,8 +161,8 @@ impl Store {
         remove_last(&mut self.calls);
     }
 
-    /// So many elements of a type come to life, zero or without a value: a pointer to the first of them.
-    /// `alloc` is the allocator. Answers the act `Count` where the count is below 1 or above
+    /// So many elements of a type come to life, zero or without a value: a pointer to the first of
+    /// them. `alloc` is the allocator. Answers the act `Count` where the count is below 1 or above
     /// 2,147,483,647; then nothing changes.
     pub fn allocate(
         &mut self,
@@ -195,8 +196,8 @@ impl Store {
         }))
     }
 
-    /// The object that a pointer to its first leaf names comes to its end; null names none. Where it
-    /// answers an act, nothing changes.
+    /// The object that a pointer to its first leaf names comes to its end; null names none. Where
+    /// it answers an act, nothing changes.
     pub fn release(&mut self, pointer: Value) -> Result<(), Act>
         ensures released { after result self.new ≡ release self.old (value_of pointer) }
         ensures same { OnErr result (self.new ≡ self.old) }

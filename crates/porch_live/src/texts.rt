@@ -16,8 +16,8 @@ use porch_values::Act;
 use std::alloc::{AllocError, Global};
 
 impl Store {
-    /// The text that a pointer to a char names: the bytes up to a byte 0, which must come in its row.
-    /// `alloc` is the allocator, `pointee` the type that it points to.
+    /// The text that a pointer to a char names: the bytes up to a byte 0, which must come in its
+    /// row. `alloc` is the allocator, `pointee` the type that it points to.
     pub fn text(
         &self,
         alloc: Global,

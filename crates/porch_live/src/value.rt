@@ -2,14 +2,14 @@
 ghost use Rattle.std.specs.Prelude.{◌≡◌, if◌then◌else◌};
 ghost use Rattle.porch_objects.specs.Store.{indeterminate, is_good};
 ghost use Rattle.porch_live.specs.Views.{value_of};
-ghost use Rattle.porch_live.specs.inside.Freeing.{access_after, block_to_free, count_of, there};
+ghost use Rattle.porch_live.specs.inside.Uses.{access_after, block_to_free, count_of, there};
 ghost use Rattle.porch_live.specs.Answers.{value_in};
 ghost use Rattle.porch_objects.specs.Pointers.{if_there};
 
 use porch_values::Act;
 
-/// Which object: a global by its number, a variable of a call, or an allocation. Calls and allocations
-/// are counted over the whole run, all from 0.
+/// Which object: a global by its number, a variable of a call, or an allocation. Calls and
+/// allocations are counted over the whole run, all from 0.
 #[derive(Clone, Copy, Debug)]
 pub enum Home {
     Global(u32),
@@ -27,9 +27,9 @@ pub enum Value {
         home: Home,
         leaf: u64,
     },
-    /// One past the subobject that begins at a leaf, which is the last of its row. Where that end is
-    /// shared with the object that follows, it is good only as long as so many calls of checkpoint()
-    /// were reached, and no more.
+    /// One past the subobject that begins at a leaf, which is the last of its row. Where that end
+    /// is shared with the object that follows, it is good only as long as so many calls of
+    /// checkpoint() were reached, and no more.
     Past {
         home: Home,
         leaf: u64,

@@ -1,4 +1,5 @@
-//! The tests of what lives in a run of the abstract machine: each call on its happy path and its acts, and long runs.
+//! The tests of what lives in a run of the abstract machine: each call on its happy path and its
+//! acts, and long runs.
 #![tactic(auto)]
 
 #[cfg(test)]

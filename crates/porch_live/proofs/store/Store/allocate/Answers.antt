@@ -5,7 +5,7 @@ use Rattle.porch_values.specs.declared.acts.Act.{Act}
 use Rattle.porch_objects.specs.Store as store
 use Rattle.porch_objects.specs.Store.{of_block, pointer, Activation, HeapObject}
 use Rattle.porch_objects.specs.Pointers.{Allocation}
-use Rattle.porch_live.specs.inside.Freeing.{count_of}
+use Rattle.porch_live.specs.inside.Uses.{count_of}
 use Rattle.porch_live.specs.inside.Entries.{stacked, blocks_of}
 use Rattle.porch_live.proofs.Blocks.{block_push}
 use Rattle.porch_live.proofs.Kept.{block_made}

@@ -1,7 +1,7 @@
 use Rattle.std.proofs.Common.{◌∙◌, ap}
 use Rattle.porch_objects.specs.Pointers.{if_there}
 use Rattle.porch_live.specs.Views.{value_of}
-use Rattle.porch_live.specs.inside.Freeing.{there}
+use Rattle.porch_live.specs.inside.Uses.{there}
 use Rattle.porch_live.proofs.Used.{differs}
 use Rattle.porch_live.proofs.store.Store.difference.Goals as goal
 

@@ -1,4 +1,4 @@
--- What may be allocated, and what a pointer frees.
+-- Values that are used, counts that may be allocated, and what a pointer frees.
 use Rattle.std.specs.Prelude.{ℕ, nat_eq, ℤ, pos, int_lt, unsigned_abs, ◌||◌, if◌then◌else◌, Option, Some, None, Result, Ok, Err}
 use Rattle.porch_values.specs.declared.acts.Act.{Act}
 use Rattle.porch_values.specs.declared.acts.Act.TheVariants as act
