@@ -1,0 +1,8 @@
+-- What only the contracts of the crate's own functions cite.
+pub mod Entries
+pub mod Uses
+pub mod Rows
+pub mod Positions
+pub mod Edits
+pub mod Places
+pub mod Texts

@@ -1,0 +1,68 @@
+//! The objects of one call or of one allocation, under its number.
+ghost use Rattle.std.specs.Prelude.{◌≡◌, [], slice_get};
+ghost use Rattle.std.specs.Option.{option_map};
+ghost use Rattle.porch_objects.specs.Store.{changed_at};
+ghost use Rattle.porch_live.specs.inside.Entries.{is_live, with_variables};
+ghost use Rattle.porch_live.specs.inside.Edits.{edited};
+
+use crate::edit::Edit;
+use crate::object::{Object, edit_one};
+use std::marker::Model;
+
+/// The objects of a call or of an allocation. Contracts see it as a call with its variables.
+#[derive(Drop)]
+pub(crate) struct Entry {
+    number: u64,
+    objects: Vec<Object>,
+}
+
+impl Model for Entry {
+    ghost use Rattle.porch_objects.specs.Store as store;
+
+    ghost Value = { store.Activation };
+
+    ghost view = { λ e. record { number = e.number; variables = e.objects.items } };
+}
+
+impl Entry {
+    pub(crate) fn new(number: u64, objects: Vec<Object>) -> Entry
+        ensures { result ≡ record { number = number; variables = objects.items } }
+    {
+        Entry { number, objects }
+    }
+
+    pub(crate) fn number(&self) -> u64
+        ensures { result ≡ self.now.number }
+    {
+        self.number
+    }
+
+    pub(crate) fn object(&self, index: usize) -> Option<&Object>
+        ensures { option_map (λ object. object.now) result ≡ slice_get self.now.variables index }
+    {
+        self.objects.get(index)
+    }
+
+    /// Changes an object, where it is there.
+    pub(crate) fn edit(&mut self, index: usize, edit: &Edit)
+        ensures { self.new ≡ with_variables self.old (changed_at (edited edit.now)
+            self.old.variables (slice_get self.old.variables index) index) }
+    {
+        edit_one(&mut self.objects, index, edit);
+    }
+
+    /// Whether it has an object.
+    pub(crate) fn is_live(&self) -> bool
+        ensures { result ≡ is_live self.now }
+    {
+        !self.objects.is_empty()
+    }
+
+    /// Its objects come to their end.
+    pub(crate) fn end(&mut self)
+        ensures { self.new ≡ with_variables self.old [] }
+    {
+        let alloc = *self.objects.allocator();
+        self.objects = Vec::new(alloc);
+    }
+}
