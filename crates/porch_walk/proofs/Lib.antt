@@ -1,0 +1,11 @@
+pub mod Accepts
+pub mod Declarators
+pub mod Expressions
+pub mod Joined
+pub mod KindWords
+pub mod Meaning
+pub mod Passes
+pub mod Sound
+pub mod Tokens
+pub mod Units
+pub mod Words
