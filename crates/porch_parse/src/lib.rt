@@ -1,0 +1,5 @@
+//! From tokens to the tree.
+#![tactic(auto)]
+
+mod laws;
+mod part;
