@@ -67,8 +67,8 @@ module _ (i : Bool) (G : State → Type 0) where
       subst (λ z. From (behind fs (operand (texts n z))) rest) (sym (append_one ms m ns)) (k rest r))))
 
   closes_row : (l : Level) (p : Infix) (x : Expr) (xs : List (Infix × Expr)) (e : Expr) → infix_level p ≡ l
-      → row (infix_level p) x (operands_of (xs ++ (p , e) ∷ [])) ≡ row l x (put_operands xs (with_operand p e no_operands))
-  closes_row l p x xs e h = ap (λ m. row m x (operands_of (xs ++ (p , e) ∷ []))) h ∙ ap (row l x) (operands_last xs p e)
+      → row (infix_level p) x (operands_of (xs ++ (p, e) ∷ [])) ≡ row l x (put_operands xs (with_operand p e no_operands))
+  closes_row l p x xs e h = ap (λ m. row m x (operands_of (xs ++ (p, e) ∷ []))) h ∙ ap (row l x) (operands_last xs p e)
 
   below : (p : Infix) (l : Level) → infix_level p ≡ l → (m : ℕ) → 4 + level_rank l < m → level_number p < m
   below p l q m h = subst (λ k. 4 + level_rank k < m) (sym q) h
@@ -86,7 +86,7 @@ module _ (i : Bool) (G : State → Type 0) where
 
   operator_on : (s p : Infix) (l : Level) (fs : List Frame) (x : Expr) (xs : List (Infix × Expr)) (e : Expr) (gs : List Frame) (o : Operand) (t : Spelled) (rest : List Spelled)
       → infix_level s ≡ l → infix_level p ≡ l → IsBehind gs o (level e) (behind_infix x xs p ∷ fs) e → 4 + level_rank l < level e
-      → From (awaits (behind_infix x (xs ++ (p , e) ∷ []) s ∷ fs)) rest → From (step_on (behind gs o) (word.Mark (infix_mark s)) t) rest
+      → From (awaits (behind_infix x (xs ++ (p, e) ∷ []) s ∷ fs)) rest → From (step_on (behind gs o) (word.Mark (infix_mark s)) t) rest
   operator_on s p l fs x xs e gs o t rest a q same deep k =
       let level_same : level_number p ≡ level_number s = ap (λ m. 4 + level_rank m) (q ∙ sym a) in
       subst (λ z. From (part_step gs o z t) rest) (sym (infix_part s))
@@ -201,8 +201,8 @@ module _ (i : Bool) (G : State → Type 0) where
     more_operands l (with_operand s v os) w y fs x xs p e d ps ts q deep gs o same r k =
         token (behind gs o) _ _ ts r (λ t rest m r.
         operator_on s p l fs x xs e gs o t rest w.0 q same deep
-        (reads v w.2 y.0 (behind_infix x (xs ++ (p , e) ∷ []) s ∷ fs) d _ rest (below s l w.0 _ (tighter_floor l v w.1)) r (λ gs o rest same r.
-        more_operands l os w.3 y.1 fs x (xs ++ (p , e) ∷ []) s v d ps rest w.0 (tighter_level l v w.1) gs o same r
+        (reads v w.2 y.0 (behind_infix x (xs ++ (p, e) ∷ []) s ∷ fs) d _ rest (below s l w.0 _ (tighter_floor l v w.1)) r (λ gs o rest same r.
+        more_operands l os w.3 y.1 fs x (xs ++ (p, e) ∷ []) s v d ps rest w.0 (tighter_level l v w.1) gs o same r
         (subst (λ z. Goes (4 + level_rank l) fs (row l x z) ps) (sym (operands_one xs p e (with_operand s v os))) k))))
 
     more_sequence : (es : Exprs) → AreAssigns es → AreTypeless es → (fs : List Frame) (x : Expr) (xs : List Expr) (e : Expr) (d : ℕ) (ps : List Piece) (ts : List Spelled)

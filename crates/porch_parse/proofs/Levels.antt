@@ -15,7 +15,7 @@ use Rattle.porch_tree.specs.Formed.{IsPrimary, IsUnary, IsTighter, IsCast, IsCon
 use Rattle.porch_parse.specs.declared.part.Part.TheVariants as part
 use Rattle.porch_parse.specs.declared.part.Start.TheVariants as start
 use Rattle.porch_parse.specs.inside.Parts.{mark_part, start_of}
-use Rattle.porch_parse.specs.inside.Building.{Frame, behind_prefix, behind_infix, behind_colon, behind_assigning, behind_comma, in_parentheses, behind_question, in_brackets, in_arguments, State, awaits, frame_number, level_number, Closed, closed, built, operated, behind_the_comma}
+use Rattle.porch_parse.specs.inside.Building.{Frame, behind_prefix, behind_infix, behind_colon, behind_assigning, behind_comma, in_parentheses, behind_question, in_brackets, in_arguments, State, awaits, frame_number, level_number, Closed, closed, built, operated, extended, behind_the_comma}
 
 -- the number of the frame that an expression ends with
 abbrev pub level : Expr → ℕ
@@ -167,14 +167,14 @@ eq_false n m h = grind (arith, nat_tests)
 pub begins_row : (o : Infix) (fs : List Frame) (e : Expr) → top fs < level_number o → operated o fs e ≡ awaits (behind_infix e [] o ∷ fs)
 begins_row o [] e h = refl
 begins_row o (behind_infix x xs p ∷ fs) e h =
-    ap (λ b. if b then awaits (behind_infix x (xs ++ (p , e) ∷ []) o ∷ fs) else awaits (behind_infix e [] o ∷ behind_infix x xs p ∷ fs)) (eq_false (level_number p) (level_number o) h)
+    ap (λ b. if b then extended o (behind_infix x xs p ∷ fs) e else awaits (behind_infix e [] o ∷ behind_infix x xs p ∷ fs)) (eq_false (level_number p) (level_number o) h)
 begins_row o (behind_prefix at p ∷ fs) e h = refl
 begins_row o (f ∷ fs) e h = refl
 
 pub continues_row : (o p : Infix) (fs : List Frame) (x : Expr) (xs : List (Infix × Expr)) (e : Expr) → level_number p ≡ level_number o
-    → operated o (behind_infix x xs p ∷ fs) e ≡ awaits (behind_infix x (xs ++ (p , e) ∷ []) o ∷ fs)
+    → operated o (behind_infix x xs p ∷ fs) e ≡ awaits (behind_infix x (xs ++ (p, e) ∷ []) o ∷ fs)
 continues_row o p fs x xs e h =
-    ap (λ b. if b then awaits (behind_infix x (xs ++ (p , e) ∷ []) o ∷ fs) else awaits (behind_infix e [] o ∷ behind_infix x xs p ∷ fs)) (eq_true (level_number p) (level_number o) h)
+    ap (λ b. if b then extended o (behind_infix x xs p ∷ fs) e else awaits (behind_infix e [] o ∷ behind_infix x xs p ∷ fs)) (eq_true (level_number p) (level_number o) h)
 
 pub begins_sequence : (fs : List Frame) (e : Expr) → top fs < 1 → behind_the_comma fs e ≡ awaits (behind_comma e [] ∷ fs)
 begins_sequence [] e h = refl

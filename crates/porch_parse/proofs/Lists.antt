@@ -21,11 +21,11 @@ abbrev pub put_operands : List (Infix × Expr) → Operands → Operands
 put_operands [] os = os
 put_operands (x ∷ xs) os = with_operand x.0 x.1 (put_operands xs os)
 
-pub operands_last : (xs : List (Infix × Expr)) (o : Infix) (e : Expr) → operands_of (xs ++ (o , e) ∷ []) ≡ put_operands xs (with_operand o e no_operands)
+pub operands_last : (xs : List (Infix × Expr)) (o : Infix) (e : Expr) → operands_of (xs ++ (o, e) ∷ []) ≡ put_operands xs (with_operand o e no_operands)
 operands_last [] o e = refl
 operands_last (x ∷ xs) o e = ap (with_operand x.0 x.1) (operands_last xs o e)
 
-pub operands_one : (xs : List (Infix × Expr)) (o : Infix) (e : Expr) (os : Operands) → put_operands (xs ++ (o , e) ∷ []) os ≡ put_operands xs (with_operand o e os)
+pub operands_one : (xs : List (Infix × Expr)) (o : Infix) (e : Expr) (os : Operands) → put_operands (xs ++ (o, e) ∷ []) os ≡ put_operands xs (with_operand o e os)
 operands_one [] o e os = refl
 operands_one (x ∷ xs) o e os = ap (with_operand x.0 x.1) (operands_one xs o e os)
 

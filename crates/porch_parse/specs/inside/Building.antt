@@ -92,7 +92,7 @@ value_of o = value_at o.core o.suffixes
 -- what a frame and the operand behind it are
 abbrev pub built : Frame → Expr → Expr
 built (behind_prefix at p) e = prefixed at p e
-built (behind_infix x xs o) e = row (infix_level o) x (operands_of (xs ++ (o , e) ∷ []))
+built (behind_infix x xs o) e = row (infix_level o) x (operands_of (xs ++ (o, e) ∷ []))
 built (behind_colon c x) e = conditional c x e
 built (behind_assigning a x) e = assign a x e
 built (behind_comma x xs) e = sequence x (exprs_of (xs ++ e ∷ []))
@@ -109,16 +109,30 @@ closed n (f ∷ fs) e =
     if nat_lt n (frame_number f) then closed n fs (built f e) else record { frames = f ∷ fs; value = e }
 
 -- An operator goes on with a row of its level.
+abbrev pub goes_on : Infix → List Frame → Bool
+goes_on o (behind_infix x xs p ∷ fs) = nat_eq (level_number p) (level_number o)
+goes_on o fs = false
+
+abbrev pub extended : Infix → List Frame → Expr → State
+extended o (behind_infix x xs p ∷ fs) e = awaits (behind_infix x (xs ++ (p, e) ∷ []) o ∷ fs)
+extended o fs e = broken
+
 abbrev pub operated : Infix → List Frame → Expr → State
-operated o (behind_infix x xs p ∷ fs) e =
-    if nat_eq (level_number p) (level_number o) then awaits (behind_infix x (xs ++ (p , e) ∷ []) o ∷ fs)
-    else awaits (behind_infix e [] o ∷ behind_infix x xs p ∷ fs)
-operated o fs e = awaits (behind_infix e [] o ∷ fs)
+operated o fs e = if goes_on o fs then extended o fs e else awaits (behind_infix e [] o ∷ fs)
+
+-- A comma goes on with expressions or arguments.
+abbrev pub has_commas : List Frame → Bool
+has_commas (behind_comma x xs ∷ fs) = true
+has_commas (in_arguments o xs ∷ fs) = true
+has_commas fs = false
+
+abbrev pub listed : List Frame → Expr → State
+listed (behind_comma x xs ∷ fs) e = awaits (behind_comma x (xs ++ e ∷ []) ∷ fs)
+listed (in_arguments o xs ∷ fs) e = awaits (in_arguments o (xs ++ e ∷ []) ∷ fs)
+listed fs e = broken
 
 abbrev pub behind_the_comma : List Frame → Expr → State
-behind_the_comma (behind_comma x xs ∷ fs) e = awaits (behind_comma x (xs ++ e ∷ []) ∷ fs)
-behind_the_comma (in_arguments o xs ∷ fs) e = awaits (in_arguments o (xs ++ e ∷ []) ∷ fs)
-behind_the_comma fs e = awaits (behind_comma e [] ∷ fs)
+behind_the_comma fs e = if has_commas fs then listed fs e else awaits (behind_comma e [] ∷ fs)
 
 abbrev pub behind_the_colon : List Frame → Expr → State
 behind_the_colon (behind_question c ∷ fs) e = awaits (behind_colon c e ∷ fs)
