@@ -134,6 +134,12 @@ listed fs e = broken
 abbrev pub behind_the_comma : List Frame → Expr → State
 behind_the_comma fs e = if has_commas fs then listed fs e else awaits (behind_comma e [] ∷ fs)
 
+abbrev pub asked : List Frame → Expr → State
+asked fs e = awaits (behind_question e ∷ fs)
+
+abbrev pub assigned : Assigning → List Frame → Expr → State
+assigned a fs e = awaits (behind_assigning a e ∷ fs)
+
 abbrev pub behind_the_colon : List Frame → Expr → State
 behind_the_colon (behind_question c ∷ fs) e = awaits (behind_colon c e ∷ fs)
 behind_the_colon fs e = broken
@@ -176,8 +182,8 @@ module _ (fs : List Frame) (o : Operand) where
 
   abbrev pub part_step : Part → Spelled → State
   part_step (part.Infix p) t = ending (level_number p) (operated p)
-  part_step (part.Assigning a) t = ending assigning_number (λ gs e. awaits (behind_assigning a e ∷ gs))
-  part_step part.Question t = ending assigning_number (λ gs e. awaits (behind_question e ∷ gs))
+  part_step (part.Assigning a) t = ending assigning_number (assigned a)
+  part_step part.Question t = ending assigning_number asked
   part_step part.Colon t = ending ends_number behind_the_colon
   part_step part.Comma t = ending comma_number behind_the_comma
   part_step part.Open t = awaits (in_arguments o [] ∷ fs)

@@ -7,8 +7,8 @@ use Rattle.porch_tree.specs.Views.{expr_of, suffix_of}
 use Rattle.porch_parse.specs.declared.frame.Operand as code_operand
 use Rattle.porch_parse.specs.declared.frame.Frame as code_frame
 use Rattle.porch_parse.specs.declared.frame.Frame.TheVariants as frame
-use Rattle.porch_parse.specs.declared.builder.Phase as code_phase
-use Rattle.porch_parse.specs.declared.builder.Phase.TheVariants as phase
+use Rattle.porch_parse.specs.declared.phase.Phase as code_phase
+use Rattle.porch_parse.specs.declared.phase.Phase.TheVariants as phase
 use Rattle.porch_parse.specs.inside.Building.{State, awaits, behind, at_member, broken, Operand, Frame, behind_prefix, behind_infix, behind_colon, behind_assigning, behind_comma, in_parentheses, behind_question, in_brackets, in_arguments, frame_number, built, Closed}
 
 module _ (text : List ℕ) where

@@ -2,7 +2,7 @@ use Rattle.std.proofs.Common.{ap, ◌∙◌, sym}
 use Rattle.porch_parse.specs.inside.Building.{closed}
 use Rattle.porch_parse.specs.inside.Shown.{frames_of}
 use Rattle.porch_parse.proofs.Frames.{when_ok}
-use Rattle.porch_parse.proofs.builder.end.Goals as goal
+use Rattle.porch_parse.proofs.phase.end.Goals as goal
 
 pub returns : goal.returns
 returns c =

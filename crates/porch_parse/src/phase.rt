@@ -1,18 +1,15 @@
-//! What the builder does at each token of an expression.
+//! What stands in front of the next token, and how parts of an expression open and end.
 
 ghost use Rattle.std.specs.Prelude.{ℕ, ◌≡◌, Bool, List, [], ◌∷◌, ◌++◌, map, IfOk};
 ghost use Rattle.porch_tree.specs.Mirror.{nested, call};
 ghost use Rattle.porch_tree.specs.Views.{exprs_of, expr_of, suffix_of, name_of};
-ghost use Rattle.porch_lex.specs.Words.{spelled_token, kind_word};
 ghost use Rattle.porch_parse.specs.declared.frame.Frame.{Frame};
 ghost use Rattle.porch_parse.specs.inside.Building as building;
-ghost use Rattle.porch_parse.specs.inside.Building.{State, awaits, behind, at_member, broken, goes_on, extended, operated, operand, suffixed_by, value_of, closed, has_commas, listed, behind_the_comma, behind_the_colon, behind_parenthesis, behind_bracket, behind_text, behind_nothing, start_step, part_step, member_step, step_on, step, spelt_name, behind_infix, behind_colon, behind_assigning, behind_comma, behind_question, in_arguments};
+ghost use Rattle.porch_parse.specs.inside.Building.{State, awaits, behind, at_member, broken, goes_on, extended, operated, operand, suffixed_by, value_of, closed, has_commas, listed, asked, assigned, behind_the_comma, behind_the_colon, behind_parenthesis, behind_bracket, behind_text, behind_nothing, start_step, part_step, member_step, step_on, step, spelt_name, behind_infix, behind_colon, behind_assigning, behind_comma, behind_question, in_arguments};
 ghost use Rattle.porch_parse.specs.inside.Shown.{infixed_of, operand_of, frame_of, frames_of, state_of};
 
 use crate::frame::{Frame, Operand, close, number_of};
-use crate::part::{Part, Start, part_at, start_at};
-use porch_lex::{Token, word_at};
-use porch_tree::{Assigning, Expr, Infix, Name, Suffix, Word};
+use porch_tree::{Assigning, Expr, Infix, Suffix};
 use sqlite_items::{Boxed, Items};
 use std::alloc::{AllocError, Global};
 
@@ -29,23 +26,7 @@ pub(crate) enum Phase {
     Broken,
 }
 
-/// The number of words that end an expression, and of `:`.
-pub(crate) const ENDS: u32 = 1;
-
-const COMMA: u32 = 2;
-
-const ASSIGNING: u32 = 3;
-
-fn name_at(token: Token) -> Name
-    ensures { (text : List ℕ) → name_of text result ≡ spelt_name (spelled_token text token) }
-{
-    Name {
-        at: token.from,
-        to: token.to,
-    }
-}
-
-fn read(alloc: Global, core: Expr) -> Phase
+pub(crate) fn read(alloc: Global, core: Expr) -> Phase
     ensures { (text : List ℕ) (frames : List Frame) →
         state_of text frames result ≡ behind (frames_of text frames) (operand (expr_of text core)) }
 {
@@ -55,7 +36,7 @@ fn read(alloc: Global, core: Expr) -> Phase
     })
 }
 
-fn suffix(mut operand: Operand, suffix: Suffix) -> Result<Phase, AllocError>
+pub(crate) fn suffix(mut operand: Operand, suffix: Suffix) -> Result<Phase, AllocError>
     ensures { IfOk result (λ p. (text : List ℕ) (frames : List Frame) →
         state_of text frames p ≡ behind (frames_of text frames)
         (suffixed_by (operand_of text operand) (suffix_of text suffix))) }
@@ -64,7 +45,7 @@ fn suffix(mut operand: Operand, suffix: Suffix) -> Result<Phase, AllocError>
     Ok(Phase::Behind(operand))
 }
 
-fn open(frames: &mut Items<Frame>, frame: Frame) -> Result<Phase, AllocError>
+pub(crate) fn open(frames: &mut Items<Frame>, frame: Frame) -> Result<Phase, AllocError>
     ensures { IfOk result (λ p. (text : List ℕ) →
         state_of text frames.new p ≡ awaits (frame_of text frame ∷ frames_of text frames.old)) }
 {
@@ -87,7 +68,7 @@ fn value(alloc: Global, operand: Operand) -> Result<Expr, AllocError>
 }
 
 /// The value that a word behind an operand finds, all frames having ended that bind tighter.
-fn end(
+pub(crate) fn end(
     alloc: Global,
     frames: &mut Items<Frame>,
     number: u32,
@@ -222,7 +203,7 @@ fn begin_row(
     )
 }
 
-fn operate(
+pub(crate) fn operate(
     alloc: Global,
     frames: &mut Items<Frame>,
     operator: Infix,
@@ -352,7 +333,11 @@ fn begin_list(alloc: Global, frames: &mut Items<Frame>, expr: Expr) -> Result<Ph
     )
 }
 
-fn separate(alloc: Global, frames: &mut Items<Frame>, expr: Expr) -> Result<Phase, AllocError>
+pub(crate) fn separate(
+    alloc: Global,
+    frames: &mut Items<Frame>,
+    expr: Expr,
+) -> Result<Phase, AllocError>
     ensures { IfOk result (λ p. (text : List ℕ) →
         state_of text frames.new p ≡ behind_the_comma (frames_of text frames.old) (expr_of text expr)) }
 {
@@ -363,22 +348,26 @@ fn separate(alloc: Global, frames: &mut Items<Frame>, expr: Expr) -> Result<Phas
     }
 }
 
-fn ask(alloc: Global, frames: &mut Items<Frame>, condition: Expr) -> Result<Phase, AllocError>
+pub(crate) fn ask(
+    alloc: Global,
+    frames: &mut Items<Frame>,
+    condition: Expr,
+) -> Result<Phase, AllocError>
     ensures { IfOk result (λ p. (text : List ℕ) →
-        state_of text frames.new p ≡ awaits (behind_question (expr_of text condition) ∷ frames_of text frames.old)) }
+        state_of text frames.new p ≡ asked (frames_of text frames.old) (expr_of text condition)) }
 {
     let condition = Boxed::new(alloc, condition)?;
     open(frames, Frame::Question { condition })
 }
 
-fn assign(
+pub(crate) fn assign(
     alloc: Global,
     frames: &mut Items<Frame>,
     assigning: Assigning,
     place: Expr,
 ) -> Result<Phase, AllocError>
     ensures { IfOk result (λ p. (text : List ℕ) →
-        state_of text frames.new p ≡ awaits (behind_assigning assigning (expr_of text place) ∷ frames_of text frames.old)) }
+        state_of text frames.new p ≡ assigned assigning (frames_of text frames.old) (expr_of text place)) }
 {
     let place = Boxed::new(alloc, place)?;
     open(frames, Frame::Assigning { assigning, place })
@@ -398,7 +387,11 @@ fn choose(
     open(frames, Frame::Colon { condition, chosen })
 }
 
-fn end_chosen(alloc: Global, frames: &mut Items<Frame>, chosen: Expr) -> Result<Phase, AllocError>
+pub(crate) fn end_chosen(
+    alloc: Global,
+    frames: &mut Items<Frame>,
+    chosen: Expr,
+) -> Result<Phase, AllocError>
     ensures { IfOk result (λ p. (text : List ℕ) →
         state_of text frames.new p ≡ behind_the_colon (frames_of text frames.old) (expr_of text chosen)) }
 {
@@ -454,7 +447,7 @@ fn call(operand: Operand, mut more: Items<Expr>, last: Expr) -> Result<Phase, Al
     suffix(operand, Suffix::Call(more))
 }
 
-fn end_parenthesis(
+pub(crate) fn end_parenthesis(
     alloc: Global,
     frames: &mut Items<Frame>,
     expr: Expr,
@@ -492,7 +485,7 @@ fn end_parenthesis(
     }
 }
 
-fn end_bracket(frames: &mut Items<Frame>, expr: Expr) -> Result<Phase, AllocError>
+pub(crate) fn end_bracket(frames: &mut Items<Frame>, expr: Expr) -> Result<Phase, AllocError>
     ensures { IfOk result (λ p. (text : List ℕ) →
         state_of text frames.new p ≡ behind_bracket (frames_of text frames.old) (expr_of text expr)) }
 {
@@ -543,7 +536,7 @@ fn call_bare(operand: Operand, more: Items<Expr>) -> Result<Phase, AllocError>
     }
 }
 
-fn end_nothing(frames: &mut Items<Frame>) -> Result<Phase, AllocError>
+pub(crate) fn end_nothing(frames: &mut Items<Frame>) -> Result<Phase, AllocError>
     ensures { IfOk result (λ p. (text : List ℕ) →
         state_of text frames.new p ≡ behind_nothing (frames_of text frames.old)) }
 {
