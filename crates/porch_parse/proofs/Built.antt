@@ -1,20 +1,17 @@
 -- The builder's run over the tokens of an expression reaches it.
-use Rattle.std.proofs.Common.{◌≡◌, ◌≢◌, ℕ, suc, ◌+◌, ◌<◌, ◌≤◌, Bool, true, false, List, [], ◌∷◌, ◌++◌, Option, Some, None, refl, sym, ap, subst, ◌∙◌, arith}
-use Rattle.porch_tree.specs.declared.word.Word.{Word}
+use Rattle.std.proofs.Common.{◌≡◌, ℕ, suc, ◌+◌, ◌<◌, Bool, true, false, List, [], ◌∷◌, ◌++◌, Some, refl, sym, ap, subst, ◌∙◌, arith}
 use Rattle.porch_tree.specs.declared.word.Word.TheVariants as word
 use Rattle.porch_tree.specs.declared.word.Mark.TheVariants as mark
 use Rattle.porch_tree.specs.declared.tree.Level.{Level}
 use Rattle.porch_tree.specs.declared.tree.Infix.{Infix}
-use Rattle.porch_tree.specs.Words.{level_rank, infix_level, infix_mark, assigning_mark, prefix_word}
+use Rattle.porch_tree.specs.Words.{level_rank, infix_level, infix_mark}
 use Rattle.porch_tree.specs.Mirror.{Name, Expr, name, whole, character, texts, nested, suffixed, prefixed, size_of, cast, row, conditional, assign, sequence, Exprs, no_exprs, with_expr, Operands, no_operands, with_operand, Suffix, index, call, member, arrow, increased, decreased, Suffixes, no_suffixes, with_suffix}
-use Rattle.porch_tree.specs.Views.{exprs_of, operands_of, suffixes_of}
-use Rattle.porch_tree.specs.Pieces.{Spelled, Piece, mark as mark_piece, text_pieces, expr_pieces, operands_pieces, more_pieces, argument_pieces, suffixes_pieces, suffix_pieces}
-use Rattle.porch_tree.specs.Formed.{IsPrimary, IsUnary, IsTighter, IsCast, IsCondition, IsCond, IsAssign, IsOperandOf, IsExpr, AreOperands, AreAssigns, AreSuffixes, IsSuffix}
+use Rattle.porch_tree.specs.Views.{operands_of}
+use Rattle.porch_tree.specs.Pieces.{Spelled, Piece, mark as mark_piece, text_pieces, expr_pieces, operands_pieces, more_pieces, suffixes_pieces, suffix_pieces}
+use Rattle.porch_tree.specs.Formed.{IsPrimary, IsExpr, AreOperands, AreAssigns, AreSuffixes, IsSuffix}
 use Rattle.porch_tree.specs.Grammar.{Matches, AreMatched}
 use Rattle.porch_parse.specs.Typeless.{IsTypeless, AreTypelessOperands, AreTypeless, AreTypelessSuffixes, IsTypelessSuffix}
-use Rattle.porch_parse.specs.declared.part.Part.TheVariants as part
-use Rattle.porch_parse.specs.declared.part.Start.TheVariants as start
-use Rattle.porch_parse.specs.inside.Building.{Operand, Frame, behind_prefix, behind_infix, behind_colon, behind_assigning, behind_comma, in_parentheses, behind_question, in_brackets, in_arguments, State, awaits, behind, at_member, broken, operand, suffixed_by, value_of, Closed, closed, level_number, operated, behind_the_comma, behind_the_colon, behind_parenthesis, behind_bracket, spelt_name, start_step, part_step, step_on, step, run, over, expression_in, expression_of}
+use Rattle.porch_parse.specs.inside.Building.{Operand, Frame, behind_prefix, behind_infix, behind_colon, behind_assigning, behind_comma, in_parentheses, behind_question, in_brackets, in_arguments, State, awaits, behind, at_member, operand, suffixed_by, value_of, closed, level_number, operated, behind_the_comma, behind_the_colon, behind_parenthesis, behind_bracket, spelt_name, start_step, part_step, step_on, run, over, expression_in, expression_of}
 use Rattle.porch_parse.proofs.Lists.{put, put_last, put_one, put_operands, operands_last, operands_one, with_suffixes, whole_suffixes, append_nothing, append_one}
 use Rattle.porch_parse.proofs.Levels.{level, floor, top, floor_positive, ends_level, tighter_level, tighter_floor, condition_level, condition_floor, assign_level, assign_floor, cond_assign, unary_cast, operand_cast, cast_level, cast_floor, comma_floor, argument_floor, ends, stays, continues_row, begins_row, begins_sequence, infix_part, assigning_part, prefix_start}
 

@@ -1,11 +1,9 @@
 -- The frames of the code, the innermost of which ends.
-use Rattle.std.proofs.Common.{◌≡◌, ℕ, Bool, true, false, List, [], ◌∷◌, ◌++◌, fold, if◌then◌else◌, Result, Ok, Err, IfOk, refl, sym, ap, ◌∙◌}
+use Rattle.std.proofs.Common.{◌≡◌, ℕ, true, false, List, [], ◌∷◌, ◌++◌, if◌then◌else◌, Result, Ok, Err, IfOk, refl, ap}
 use Rattle.std.proofs.lemmas.List.Sums.{fold-append}
-use Rattle.porch_tree.specs.declared.tree.Expr as code_expr
 use Rattle.porch_tree.specs.Mirror.{Expr}
-use Rattle.porch_tree.specs.Views.{expr_of}
 use Rattle.porch_parse.specs.declared.frame.Frame as code_frame
-use Rattle.porch_parse.specs.inside.Building.{Frame, frame_number, Closed, closed, built}
+use Rattle.porch_parse.specs.inside.Building.{Frame, closed, built}
 use Rattle.porch_parse.specs.inside.Shown.{frame_of, frames_of, closes, ended}
 
 pub on_top : (text : List ℕ) (fs : List code_frame.Frame) (f : code_frame.Frame) → frames_of text (fs ++ f ∷ []) ≡ frame_of text f ∷ frames_of text fs

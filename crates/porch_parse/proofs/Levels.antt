@@ -1,5 +1,5 @@
 -- How tightly expressions bind, and what frames that brings to an end.
-use Rattle.std.proofs.Common.{◌≡◌, ℕ, ◌+◌, ◌<◌, ◌≤◌, Bool, true, false, nat_lt, nat_eq, if◌then◌else◌, List, [], ◌∷◌, ◌++◌, refl, sym, ap, ◌∙◌, arith}
+use Rattle.std.proofs.Common.{◌≡◌, ℕ, ◌+◌, ◌<◌, ◌≤◌, true, false, nat_lt, nat_eq, if◌then◌else◌, List, [], ◌∷◌, ◌++◌, refl, ap, arith}
 use Rattle.std.proofs.lemmas.Bool.Decides.{nat_tests}
 use Rattle.porch_tree.specs.declared.tree.Level.{Level}
 use Rattle.porch_tree.specs.declared.tree.Level.TheVariants as level_variant
@@ -9,13 +9,13 @@ use Rattle.porch_tree.specs.declared.tree.Prefix.{Prefix}
 use Rattle.porch_tree.specs.declared.tree.Prefix.TheVariants as prefix_variant
 use Rattle.porch_tree.specs.declared.tree.Assigning.{Assigning}
 use Rattle.porch_tree.specs.declared.tree.Assigning.TheVariants as assigning_variant
-use Rattle.porch_tree.specs.Words.{level_rank, infix_level, infix_mark, assigning_mark, prefix_word}
-use Rattle.porch_tree.specs.Mirror.{Expr, name, whole, character, texts, nested, suffixed, prefixed, size_of, cast, row, conditional, assign, sequence}
-use Rattle.porch_tree.specs.Formed.{IsPrimary, IsUnary, IsTighter, IsCast, IsCondition, IsCond, IsAssign, IsOperandOf}
+use Rattle.porch_tree.specs.Words.{level_rank, infix_mark, assigning_mark, prefix_word}
+use Rattle.porch_tree.specs.Mirror.{Expr, name, prefixed, cast, row, conditional, assign, sequence}
+use Rattle.porch_tree.specs.Formed.{IsUnary, IsTighter, IsCast, IsCondition, IsCond, IsAssign, IsOperandOf}
 use Rattle.porch_parse.specs.declared.part.Part.TheVariants as part
 use Rattle.porch_parse.specs.declared.part.Start.TheVariants as start
 use Rattle.porch_parse.specs.inside.Parts.{mark_part, start_of}
-use Rattle.porch_parse.specs.inside.Building.{Frame, behind_prefix, behind_infix, behind_colon, behind_assigning, behind_comma, in_parentheses, behind_question, in_brackets, in_arguments, State, awaits, frame_number, level_number, Closed, closed, built, operated, extended, behind_the_comma}
+use Rattle.porch_parse.specs.inside.Building.{Frame, behind_prefix, behind_infix, behind_comma, in_arguments, awaits, frame_number, level_number, closed, built, operated, extended, behind_the_comma}
 
 -- the number of the frame that an expression ends with
 abbrev pub level : Expr → ℕ

@@ -1,5 +1,5 @@
 -- The lists of a tree, with more put in front of them.
-use Rattle.std.proofs.Common.{◌≡◌, ◌≢◌, List, [], ◌∷◌, ◌++◌, refl, sym, ap, ◌∙◌, append_assoc}
+use Rattle.std.proofs.Common.{◌≡◌, ◌≢◌, List, [], ◌∷◌, ◌++◌, refl, ap, ◌∙◌, append_assoc}
 use Rattle.porch_tree.specs.declared.tree.Infix.{Infix}
 use Rattle.porch_tree.specs.Mirror.{Expr, Exprs, no_exprs, with_expr, Operands, no_operands, with_operand, Suffix, Suffixes, no_suffixes, with_suffix, suffixed}
 use Rattle.porch_tree.specs.Views.{exprs_of, operands_of, suffixes_of}

@@ -1,6 +1,6 @@
 -- Which expressions have no type in them: neither a cast nor the size of a type.
 use Rattle.std.specs.Prelude.{⊤}
-use Rattle.porch_tree.specs.Mirror.{Expr, name, whole, character, texts, nested, suffixed, prefixed, size_of, cast, row, conditional, assign, sequence, Exprs, no_exprs, with_expr, Operands, no_operands, with_operand, Suffix, index, call, member, arrow, increased, decreased, Suffixes, no_suffixes, with_suffix}
+use Rattle.porch_tree.specs.Mirror.{Expr, name, whole, character, texts, nested, suffixed, prefixed, size_of, cast, row, conditional, assign, sequence, Exprs, no_exprs, with_expr, Operands, no_operands, with_operand, Suffix, index, call, Suffixes, no_suffixes, with_suffix}
 
 abbrev mutual
   pub IsTypeless : Expr → Type 0

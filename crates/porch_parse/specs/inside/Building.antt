@@ -12,7 +12,7 @@ use Rattle.porch_tree.specs.declared.tree.Prefix.{Prefix}
 use Rattle.porch_tree.specs.declared.tree.Infix.{Infix}
 use Rattle.porch_tree.specs.declared.tree.Assigning.{Assigning}
 use Rattle.porch_tree.specs.Words.{level_rank, infix_level}
-use Rattle.porch_tree.specs.Mirror.{Name, Expr, name, whole, character, texts, nested, suffixed, prefixed, size_of, cast, row, conditional, assign, sequence, Suffix, index, call, member, arrow, increased, decreased}
+use Rattle.porch_tree.specs.Mirror.{Name, Expr, name, whole, character, texts, nested, suffixed, prefixed, row, conditional, assign, sequence, Suffix, index, call, member, arrow, increased, decreased}
 use Rattle.porch_tree.specs.Views.{exprs_of, operands_of, suffixes_of}
 use Rattle.porch_tree.specs.Pieces.{Spelled}
 use Rattle.porch_parse.specs.declared.part.Part.{Part}
