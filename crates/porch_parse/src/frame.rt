@@ -3,12 +3,24 @@
 ghost use Rattle.std.specs.Prelude.{ℕ, ◌≡◌, ◌<◌, List, length, map, IsTrue, IfOk};
 ghost use Rattle.porch_tree.specs.Words.{infix_level};
 ghost use Rattle.porch_tree.specs.Views.{expr_of};
-ghost use Rattle.porch_parse.specs.inside.Building.{behind_prefix, behind_infix, behind_colon, behind_assigning, behind_comma, Closed, built, closed, level_number, frame_number, value_of};
-ghost use Rattle.porch_parse.specs.inside.Shown.{operand_of, frame_of, frames_of, infixed_of, closes, ended};
+ghost use Rattle.porch_parse.specs.inside.Building.{behind_prefix, behind_infix, behind_colon, behind_assigning, behind_comma, built, closed, level_number, frame_number};
+ghost use Rattle.porch_parse.specs.inside.Shown.{frame_of, frames_of, infixed_of, closes, ended};
 
 use porch_tree::{Assigning, Expr, Infix, Level, Prefix, Suffix};
 use sqlite_items::{Boxed, Items};
 use std::alloc::{AllocError, Global};
+
+/// How tightly closing words and `:` bind, and a list of arguments.
+pub(crate) const ENDS: u32 = 1;
+
+/// How tightly a comma binds.
+pub(crate) const COMMA: u32 = 2;
+
+/// How tightly `?` and assignments bind.
+pub(crate) const ASSIGNING: u32 = 3;
+
+/// How tightly an operator in front of its operand binds.
+const PREFIX: u32 = 14;
 
 /// An operand with the suffixes that have been read.
 #[derive(Drop)]
@@ -116,7 +128,8 @@ fn row(
     operand: Expr,
 ) -> Result<Expr, AllocError>
     ensures { IfOk result (λ e. (text : List ℕ) →
-        expr_of text e ≡ built (behind_infix (expr_of text first) (map (infixed_of text) more) operator)
+        expr_of text e
+        ≡ built (behind_infix (expr_of text first) (map (infixed_of text) more) operator)
         (expr_of text operand)) }
 {
     more.push((operator, operand))?;
@@ -195,11 +208,12 @@ fn build(alloc: Global, frame: Frame, operand: Expr) -> Result<Expr, AllocError>
     }
 }
 
+/// How tightly a frame binds that a weaker word ends; 0 where only a word of its own ends it.
 fn number_at(frame: &Frame) -> u32
     ensures { (text : List ℕ) → result ≡ frame_number (frame_of text frame.now) }
 {
     match frame {
-        Frame::Prefix { at: _, prefix: _ } => 14,
+        Frame::Prefix { at: _, prefix: _ } => PREFIX,
         Frame::Infix {
             first: _,
             more: _,
@@ -208,22 +222,23 @@ fn number_at(frame: &Frame) -> u32
         Frame::Colon {
             condition: _,
             chosen: _,
-        } => 3,
+        } => ASSIGNING,
         Frame::Assigning {
             assigning: _,
             place: _,
-        } => 3,
-        Frame::Comma { first: _, more: _ } => 2,
+        } => ASSIGNING,
+        Frame::Comma { first: _, more: _ } => COMMA,
         Frame::Arguments {
             operand: _,
             more: _,
-        } => 1,
+        } => ENDS,
         Frame::Parentheses { at: _ } => 0,
         Frame::Question { condition: _ } => 0,
         Frame::Brackets(_) => 0,
     }
 }
 
+/// Whether the innermost frame binds tighter than a word does.
 fn ends_innermost(frames: &Items<Frame>, number: u32) -> bool
     ensures ends { (text : List ℕ) → result ≡ closes number (frames_of text frames.now) }
     ensures some { IsTrue result → 0 < length frames.now }
@@ -234,6 +249,7 @@ fn ends_innermost(frames: &Items<Frame>, number: u32) -> bool
     }
 }
 
+/// The innermost frame ends, if there is one.
 fn end_innermost(alloc: Global, frames: &mut Items<Frame>, value: Expr) -> Result<Expr, AllocError>
     ensures ended { IfOk result (λ e. (text : List ℕ) →
         ended (frames_of text frames.old) (expr_of text value)

@@ -11,6 +11,7 @@ ghost use Rattle.porch_parse.specs.inside.Building.{expression_of};
 /// Of the tokens of an expression comes this expression.
 #[tactic(auto, using(crate::proofs::Built::is_built))]
 pub(crate) fn expressions_are_built()
-    ensures { (inside : Bool) (e : Expr) → IsExpr e → IsTypeless e → (uses : ℕ) (ts : List Spelled) →
+    ensures { (inside : Bool) (e : Expr) → IsExpr e → IsTypeless e → (uses : ℕ)
+        (ts : List Spelled) →
         AreMatched ts (expr_pieces inside e uses []) → expression_of ts ≡ Some e }
 {}

@@ -1,11 +1,11 @@
 //! What stands in front of the next token, and how parts of an expression open and end.
 
-ghost use Rattle.std.specs.Prelude.{ℕ, ◌≡◌, Bool, List, [], ◌∷◌, ◌++◌, map, IfOk};
+ghost use Rattle.std.specs.Prelude.{ℕ, ◌≡◌, List, [], ◌∷◌, ◌++◌, map, IfOk};
 ghost use Rattle.porch_tree.specs.Mirror.{nested, call};
-ghost use Rattle.porch_tree.specs.Views.{exprs_of, expr_of, suffix_of, name_of};
+ghost use Rattle.porch_tree.specs.Views.{exprs_of, expr_of, suffix_of};
 ghost use Rattle.porch_parse.specs.declared.frame.Frame.{Frame};
 ghost use Rattle.porch_parse.specs.inside.Building as building;
-ghost use Rattle.porch_parse.specs.inside.Building.{State, awaits, behind, at_member, broken, goes_on, extended, operated, operand, suffixed_by, value_of, closed, has_commas, listed, asked, assigned, behind_the_comma, behind_the_colon, behind_parenthesis, behind_bracket, behind_text, behind_nothing, start_step, part_step, member_step, step_on, step, spelt_name, behind_infix, behind_colon, behind_assigning, behind_comma, behind_question, in_arguments};
+ghost use Rattle.porch_parse.specs.inside.Building.{awaits, behind, goes_on, extended, operated, operand, suffixed_by, value_of, closed, has_commas, listed, asked, assigned, behind_the_comma, behind_the_colon, behind_parenthesis, behind_bracket, behind_nothing, behind_infix, behind_colon, behind_comma, in_arguments};
 ghost use Rattle.porch_parse.specs.inside.Shown.{infixed_of, operand_of, frame_of, frames_of, state_of};
 
 use crate::frame::{Frame, Operand, close, number_of};
@@ -92,7 +92,8 @@ fn has_row(frames: &Items<Frame>, operator: Infix) -> bool
 }
 
 fn is_row_of(frame: &Frame, operator: Infix) -> bool
-    ensures { (text : List ℕ) (frames : List building.Frame) → result ≡ goes_on operator (frame_of text frame.now ∷ frames) }
+    ensures { (text : List ℕ) (frames : List building.Frame) → result
+        ≡ goes_on operator (frame_of text frame.now ∷ frames) }
 {
     match frame {
         Frame::Infix {
@@ -122,7 +123,8 @@ fn is_row_of(frame: &Frame, operator: Infix) -> bool
 
 fn extend(frames: &mut Items<Frame>, operator: Infix, operand: Expr) -> Result<Phase, AllocError>
     ensures { IfOk result (λ p. (text : List ℕ) →
-        state_of text frames.new p ≡ extended operator (frames_of text frames.old) (expr_of text operand)) }
+        state_of text frames.new p
+        ≡ extended operator (frames_of text frames.old) (expr_of text operand)) }
 {
     match frames.pop() {
         Some(
@@ -190,7 +192,8 @@ fn begin_row(
     operand: Expr,
 ) -> Result<Phase, AllocError>
     ensures { IfOk result (λ p. (text : List ℕ) →
-        state_of text frames.new p ≡ awaits (behind_infix (expr_of text operand) [] operator ∷ frames_of text frames.old)) }
+        state_of text frames.new p
+        ≡ awaits (behind_infix (expr_of text operand) [] operator ∷ frames_of text frames.old)) }
 {
     let first = Boxed::new(alloc, operand)?;
     open(
@@ -210,7 +213,8 @@ pub(crate) fn operate(
     operand: Expr,
 ) -> Result<Phase, AllocError>
     ensures { IfOk result (λ p. (text : List ℕ) →
-        state_of text frames.new p ≡ operated operator (frames_of text frames.old) (expr_of text operand)) }
+        state_of text frames.new p
+        ≡ operated operator (frames_of text frames.old) (expr_of text operand)) }
 {
     if has_row(frames, operator) {
         extend(frames, operator, operand)
@@ -229,7 +233,8 @@ fn has_list(frames: &Items<Frame>) -> bool
 }
 
 fn is_list(frame: &Frame) -> bool
-    ensures { (text : List ℕ) (frames : List building.Frame) → result ≡ has_commas (frame_of text frame.now ∷ frames) }
+    ensures { (text : List ℕ) (frames : List building.Frame) → result
+        ≡ has_commas (frame_of text frame.now ∷ frames) }
 {
     match frame {
         Frame::Comma { first: _, more: _ } => true,
@@ -321,7 +326,8 @@ fn list_argument(
 
 fn begin_list(alloc: Global, frames: &mut Items<Frame>, expr: Expr) -> Result<Phase, AllocError>
     ensures { IfOk result (λ p. (text : List ℕ) →
-        state_of text frames.new p ≡ awaits (behind_comma (expr_of text expr) [] ∷ frames_of text frames.old)) }
+        state_of text frames.new p
+        ≡ awaits (behind_comma (expr_of text expr) [] ∷ frames_of text frames.old)) }
 {
     let first = Boxed::new(alloc, expr)?;
     open(
@@ -339,7 +345,8 @@ pub(crate) fn separate(
     expr: Expr,
 ) -> Result<Phase, AllocError>
     ensures { IfOk result (λ p. (text : List ℕ) →
-        state_of text frames.new p ≡ behind_the_comma (frames_of text frames.old) (expr_of text expr)) }
+        state_of text frames.new p
+        ≡ behind_the_comma (frames_of text frames.old) (expr_of text expr)) }
 {
     if has_list(frames) {
         list(frames, expr)
@@ -367,7 +374,8 @@ pub(crate) fn assign(
     place: Expr,
 ) -> Result<Phase, AllocError>
     ensures { IfOk result (λ p. (text : List ℕ) →
-        state_of text frames.new p ≡ assigned assigning (frames_of text frames.old) (expr_of text place)) }
+        state_of text frames.new p
+        ≡ assigned assigning (frames_of text frames.old) (expr_of text place)) }
 {
     let place = Boxed::new(alloc, place)?;
     open(frames, Frame::Assigning { assigning, place })
@@ -380,7 +388,8 @@ fn choose(
     chosen: Expr,
 ) -> Result<Phase, AllocError>
     ensures { IfOk result (λ p. (text : List ℕ) →
-        state_of text frames.new p ≡ awaits (behind_colon (expr_of text condition) (expr_of text chosen)
+        state_of text frames.new p
+        ≡ awaits (behind_colon (expr_of text condition) (expr_of text chosen)
         ∷ frames_of text frames.old)) }
 {
     let chosen = Boxed::new(alloc, chosen)?;
@@ -393,7 +402,8 @@ pub(crate) fn end_chosen(
     chosen: Expr,
 ) -> Result<Phase, AllocError>
     ensures { IfOk result (λ p. (text : List ℕ) →
-        state_of text frames.new p ≡ behind_the_colon (frames_of text frames.old) (expr_of text chosen)) }
+        state_of text frames.new p
+        ≡ behind_the_colon (frames_of text frames.old) (expr_of text chosen)) }
 {
     match frames.pop() {
         Some(Frame::Question { condition }) => choose(alloc, frames, condition, chosen),
@@ -432,7 +442,8 @@ pub(crate) fn end_chosen(
 
 fn nest(alloc: Global, at: u32, expr: Expr) -> Result<Phase, AllocError>
     ensures { IfOk result (λ p. (text : List ℕ) (frames : List Frame) →
-        state_of text frames p ≡ behind (frames_of text frames) (operand (nested at (expr_of text expr)))) }
+        state_of text frames p
+        ≡ behind (frames_of text frames) (operand (nested at (expr_of text expr)))) }
 {
     let expr = Boxed::new(alloc, expr)?;
     Ok(read(alloc, Expr::Nested { at, expr }))
@@ -440,7 +451,8 @@ fn nest(alloc: Global, at: u32, expr: Expr) -> Result<Phase, AllocError>
 
 fn call(operand: Operand, mut more: Items<Expr>, last: Expr) -> Result<Phase, AllocError>
     ensures { IfOk result (λ p. (text : List ℕ) (frames : List Frame) →
-        state_of text frames p ≡ behind (frames_of text frames) (suffixed_by (operand_of text operand)
+        state_of text frames p
+        ≡ behind (frames_of text frames) (suffixed_by (operand_of text operand)
         (call (exprs_of (map (expr_of text) more ++ expr_of text last ∷ []))))) }
 {
     more.push(last)?;
@@ -453,7 +465,8 @@ pub(crate) fn end_parenthesis(
     expr: Expr,
 ) -> Result<Phase, AllocError>
     ensures { IfOk result (λ p. (text : List ℕ) →
-        state_of text frames.new p ≡ behind_parenthesis (frames_of text frames.old) (expr_of text expr)) }
+        state_of text frames.new p
+        ≡ behind_parenthesis (frames_of text frames.old) (expr_of text expr)) }
 {
     match frames.pop() {
         Some(Frame::Parentheses { at }) => nest(alloc, at, expr),
@@ -487,7 +500,8 @@ pub(crate) fn end_parenthesis(
 
 pub(crate) fn end_bracket(frames: &mut Items<Frame>, expr: Expr) -> Result<Phase, AllocError>
     ensures { IfOk result (λ p. (text : List ℕ) →
-        state_of text frames.new p ≡ behind_bracket (frames_of text frames.old) (expr_of text expr)) }
+        state_of text frames.new p
+        ≡ behind_bracket (frames_of text frames.old) (expr_of text expr)) }
 {
     match frames.pop() {
         Some(Frame::Brackets(operand)) => suffix(operand, Suffix::Index(expr)),

@@ -12,9 +12,9 @@ ghost use Rattle.porch_parse.specs.Typeless.{IsTypeless};
 ghost use Rattle.porch_parse.specs.inside.Building.{awaits, run, ending, ends_number, over, expression_in, expression_of};
 ghost use Rattle.porch_parse.specs.inside.Shown.{operand_of, frames_of, state_of};
 
-use crate::frame::{Frame, Operand};
+use crate::frame::{ENDS, Frame, Operand};
 use crate::phase::{Phase, end};
-use crate::step::{ENDS, next};
+use crate::step::next;
 use porch_lex::Token;
 use porch_tree::Expr;
 use sqlite_items::Items;
@@ -26,7 +26,8 @@ use std::alloc::{AllocError, Global};
 /// expression are one is not said.
 pub fn expression(alloc: Global, tokens: &[Token]) -> Result<Option<Expr>, AllocError>
     ensures { IfOk result (λ found. (text : List ℕ) (inside : Bool) (e : mirror.Expr) (uses : ℕ) →
-        IsExpr e → IsTypeless e → AreMatched (spelled text tokens.now) (expr_pieces inside e uses []) →
+        IsExpr e → IsTypeless e → AreMatched (spelled text tokens.now)
+        (expr_pieces inside e uses []) →
         option_map (expr_of text) found ≡ Some e) }
 {
     read(alloc, tokens)

@@ -1,15 +1,15 @@
 //! What the builder does at each token of an expression.
 
-ghost use Rattle.std.specs.Prelude.{ℕ, ◌≡◌, Bool, List, map, IfOk};
+ghost use Rattle.std.specs.Prelude.{ℕ, ◌≡◌, List, map, IfOk};
 ghost use Rattle.porch_tree.specs.Views.{expr_of, suffix_of, name_of};
-ghost use Rattle.porch_lex.specs.Words.{spelled_token, kind_word};
-ghost use Rattle.porch_parse.specs.inside.Building.{State, awaits, broken, operated, ending, assigned, asked, behind_the_comma, behind_the_colon, behind_parenthesis, behind_bracket, behind_text, start_step, part_step, member_step, step, spelt_name, ends_number, comma_number, assigning_number, level_number};
+ghost use Rattle.porch_lex.specs.Words.{spelled_token};
+ghost use Rattle.porch_parse.specs.inside.Building.{operated, ending, assigned, asked, behind_the_comma, behind_the_colon, behind_parenthesis, behind_bracket, behind_text, start_step, part_step, member_step, step, spelt_name, ends_number, comma_number, assigning_number, level_number};
 ghost use Rattle.porch_tree.specs.Mirror.{texts};
 ghost use Rattle.porch_parse.specs.declared.frame.Frame.{Frame};
 ghost use Rattle.porch_parse.specs.inside.Building as building;
 ghost use Rattle.porch_parse.specs.inside.Shown.{operand_of, frames_of, state_of};
 
-use crate::frame::{Frame, Operand, number_of};
+use crate::frame::{ASSIGNING, COMMA, ENDS, Frame, Operand, number_of};
 use crate::part::{Part, Start, part_at, start_at};
 use crate::phase::{
     Phase, ask, assign, end, end_bracket, end_chosen, end_nothing, end_parenthesis, open, operate,
@@ -20,13 +20,6 @@ use porch_tree::{Assigning, Expr, Infix, Name, Suffix, Word};
 use sqlite_items::Items;
 use std::alloc::{AllocError, Global};
 
-/// The number of words that end an expression, and of `:`.
-pub(crate) const ENDS: u32 = 1;
-
-const COMMA: u32 = 2;
-
-const ASSIGNING: u32 = 3;
-
 /// What stands behind one more token.
 pub(crate) fn next(
     alloc: Global,
@@ -35,7 +28,8 @@ pub(crate) fn next(
     token: Token,
 ) -> Result<Phase, AllocError>
     ensures { IfOk result (λ p. (text : List ℕ) →
-        state_of text frames.new p ≡ step (state_of text frames.old phase) (spelled_token text token)) }
+        state_of text frames.new p
+        ≡ step (state_of text frames.old phase) (spelled_token text token)) }
 {
     match phase {
         Phase::Awaits => begin(alloc, frames, start_at(word_at(token)), token),
@@ -61,7 +55,8 @@ fn begin(
     token: Token,
 ) -> Result<Phase, AllocError>
     ensures { IfOk result (λ p. (text : List ℕ) →
-        state_of text frames.new p ≡ start_step (frames_of text frames.old) start (spelled_token text token)) }
+        state_of text frames.new p
+        ≡ start_step (frames_of text frames.old) start (spelled_token text token)) }
 {
     match start {
         Start::Name => Ok(read(alloc, Expr::Name(name_at(token)))),
@@ -95,7 +90,8 @@ fn go_on(
     token: Token,
 ) -> Result<Phase, AllocError>
     ensures { IfOk result (λ p. (text : List ℕ) →
-        state_of text frames.new p ≡ part_step (frames_of text frames.old) (operand_of text operand) part
+        state_of text frames.new p
+        ≡ part_step (frames_of text frames.old) (operand_of text operand) part
         (spelled_token text token)) }
 {
     match part {
@@ -201,7 +197,8 @@ fn join_text(
 ) -> Result<Phase, AllocError>
     ensures { IfOk result (λ p. (text : List ℕ) (frames : List Frame) →
         state_of text frames p ≡ behind_text (frames_of text frames)
-        (texts (name_of text first) (map (name_of text) more)) (map (suffix_of text) suffixes) (name_of text name)) }
+        (texts (name_of text first) (map (name_of text) more)) (map (suffix_of text) suffixes)
+        (name_of text name)) }
 {
     if !suffixes.is_empty() {
         return Ok(Phase::Broken);
@@ -217,7 +214,8 @@ fn operate_next(
     operator: Infix,
 ) -> Result<Phase, AllocError>
     ensures { IfOk result (λ p. (text : List ℕ) →
-        state_of text frames.new p ≡ ending (frames_of text frames.old) (operand_of text operand) (level_number operator)
+        state_of text frames.new p
+        ≡ ending (frames_of text frames.old) (operand_of text operand) (level_number operator)
         (operated operator)) }
 {
     let value = end(alloc, frames, number_of(operator), operand)?;
@@ -231,7 +229,8 @@ fn assign_next(
     assigning: Assigning,
 ) -> Result<Phase, AllocError>
     ensures { IfOk result (λ p. (text : List ℕ) →
-        state_of text frames.new p ≡ ending (frames_of text frames.old) (operand_of text operand) assigning_number
+        state_of text frames.new p
+        ≡ ending (frames_of text frames.old) (operand_of text operand) assigning_number
         (assigned assigning)) }
 {
     let value = end(alloc, frames, ASSIGNING, operand)?;
@@ -240,7 +239,8 @@ fn assign_next(
 
 fn ask_next(alloc: Global, frames: &mut Items<Frame>, operand: Operand) -> Result<Phase, AllocError>
     ensures { IfOk result (λ p. (text : List ℕ) →
-        state_of text frames.new p ≡ ending (frames_of text frames.old) (operand_of text operand) assigning_number
+        state_of text frames.new p
+        ≡ ending (frames_of text frames.old) (operand_of text operand) assigning_number
         asked) }
 {
     let value = end(alloc, frames, ASSIGNING, operand)?;
@@ -253,7 +253,8 @@ fn choose_next(
     operand: Operand,
 ) -> Result<Phase, AllocError>
     ensures { IfOk result (λ p. (text : List ℕ) →
-        state_of text frames.new p ≡ ending (frames_of text frames.old) (operand_of text operand) ends_number
+        state_of text frames.new p
+        ≡ ending (frames_of text frames.old) (operand_of text operand) ends_number
         behind_the_colon) }
 {
     let value = end(alloc, frames, ENDS, operand)?;
@@ -266,7 +267,8 @@ fn separate_next(
     operand: Operand,
 ) -> Result<Phase, AllocError>
     ensures { IfOk result (λ p. (text : List ℕ) →
-        state_of text frames.new p ≡ ending (frames_of text frames.old) (operand_of text operand) comma_number
+        state_of text frames.new p
+        ≡ ending (frames_of text frames.old) (operand_of text operand) comma_number
         behind_the_comma) }
 {
     let value = end(alloc, frames, COMMA, operand)?;
@@ -279,7 +281,8 @@ fn close_next(
     operand: Operand,
 ) -> Result<Phase, AllocError>
     ensures { IfOk result (λ p. (text : List ℕ) →
-        state_of text frames.new p ≡ ending (frames_of text frames.old) (operand_of text operand) ends_number
+        state_of text frames.new p
+        ≡ ending (frames_of text frames.old) (operand_of text operand) ends_number
         behind_parenthesis) }
 {
     let value = end(alloc, frames, ENDS, operand)?;
@@ -292,7 +295,8 @@ fn close_bracket_next(
     operand: Operand,
 ) -> Result<Phase, AllocError>
     ensures { IfOk result (λ p. (text : List ℕ) →
-        state_of text frames.new p ≡ ending (frames_of text frames.old) (operand_of text operand) ends_number
+        state_of text frames.new p
+        ≡ ending (frames_of text frames.old) (operand_of text operand) ends_number
         behind_bracket) }
 {
     let value = end(alloc, frames, ENDS, operand)?;
