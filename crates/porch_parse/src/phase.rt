@@ -1,0 +1,585 @@
+//! What stands in front of the next token, and how parts of an expression open and end.
+
+ghost use Rattle.std.specs.Prelude.{ℕ, ◌≡◌, List, [], ◌∷◌, ◌++◌, map, IfOk};
+ghost use Rattle.porch_tree.specs.Mirror.{nested, call};
+ghost use Rattle.porch_tree.specs.Views.{exprs_of, expr_of, suffix_of};
+ghost use Rattle.porch_parse.specs.declared.frame.Frame.{Frame};
+ghost use Rattle.porch_parse.specs.inside.Building as building;
+ghost use Rattle.porch_parse.specs.inside.Building.{awaits, behind, goes_on, extended, operated, operand, suffixed_by, value_of, closed, has_commas, listed, asked, assigned, behind_the_comma, behind_the_colon, behind_parenthesis, behind_bracket, behind_nothing, behind_infix, behind_colon, behind_comma, in_arguments};
+ghost use Rattle.porch_parse.specs.inside.Shown.{infixed_of, operand_of, frame_of, frames_of, state_of};
+
+use crate::frame::{Frame, Operand, close, number_of};
+use porch_tree::{Assigning, Expr, Infix, Suffix};
+use sqlite_items::{Boxed, Items};
+use std::alloc::{AllocError, Global};
+
+/// What stands in front of the next token.
+#[derive(Drop)]
+pub(crate) enum Phase {
+    /// An operand comes next.
+    Awaits,
+    /// An operand has been read.
+    Behind(Operand),
+    /// A dot or, where it is far, an arrow has been read behind it.
+    Member(bool, Operand),
+    /// No expression has these tokens.
+    Broken,
+}
+
+pub(crate) fn read(alloc: Global, core: Expr) -> Phase
+    ensures { (text : List ℕ) (frames : List Frame) →
+        state_of text frames result ≡ behind (frames_of text frames) (operand (expr_of text core)) }
+{
+    Phase::Behind(Operand {
+        core,
+        suffixes: Items::new(alloc),
+    })
+}
+
+pub(crate) fn suffix(mut operand: Operand, suffix: Suffix) -> Result<Phase, AllocError>
+    ensures { IfOk result (λ p. (text : List ℕ) (frames : List Frame) →
+        state_of text frames p ≡ behind (frames_of text frames)
+        (suffixed_by (operand_of text operand) (suffix_of text suffix))) }
+{
+    operand.suffixes.push(suffix)?;
+    Ok(Phase::Behind(operand))
+}
+
+pub(crate) fn open(frames: &mut Items<Frame>, frame: Frame) -> Result<Phase, AllocError>
+    ensures { IfOk result (λ p. (text : List ℕ) →
+        state_of text frames.new p ≡ awaits (frame_of text frame ∷ frames_of text frames.old)) }
+{
+    frames.push(frame)?;
+    Ok(Phase::Awaits)
+}
+
+fn value(alloc: Global, operand: Operand) -> Result<Expr, AllocError>
+    ensures { IfOk result (λ e. (text : List ℕ) →
+        expr_of text e ≡ value_of (operand_of text operand)) }
+{
+    let Operand { core, suffixes } = operand;
+    if suffixes.is_empty() {
+        return Ok(core);
+    }
+    Ok(Expr::Suffixed {
+        operand: Boxed::new(alloc, core)?,
+        suffixes,
+    })
+}
+
+/// The value that a word behind an operand finds, all frames having ended that bind tighter.
+pub(crate) fn end(
+    alloc: Global,
+    frames: &mut Items<Frame>,
+    number: u32,
+    operand: Operand,
+) -> Result<Expr, AllocError>
+    ensures { IfOk result (λ e. (text : List ℕ) →
+        closed number (frames_of text frames.old) (value_of (operand_of text operand))
+        ≡ record { frames = frames_of text frames.new; value = expr_of text e }) }
+{
+    let value = value(alloc, operand)?;
+    close(alloc, frames, number, value)
+}
+
+fn has_row(frames: &Items<Frame>, operator: Infix) -> bool
+    ensures { (text : List ℕ) → result ≡ goes_on operator (frames_of text frames.now) }
+{
+    match frames.as_slice() {
+        [] => false,
+        [.., frame] => is_row_of(frame, operator),
+    }
+}
+
+fn is_row_of(frame: &Frame, operator: Infix) -> bool
+    ensures { (text : List ℕ) (frames : List building.Frame) → result
+        ≡ goes_on operator (frame_of text frame.now ∷ frames) }
+{
+    match frame {
+        Frame::Infix {
+            first: _,
+            more: _,
+            operator: before,
+        } => number_of(*before) == number_of(operator),
+        Frame::Prefix { at: _, prefix: _ } => false,
+        Frame::Colon {
+            condition: _,
+            chosen: _,
+        } => false,
+        Frame::Assigning {
+            assigning: _,
+            place: _,
+        } => false,
+        Frame::Comma { first: _, more: _ } => false,
+        Frame::Parentheses { at: _ } => false,
+        Frame::Question { condition: _ } => false,
+        Frame::Brackets(_) => false,
+        Frame::Arguments {
+            operand: _,
+            more: _,
+        } => false,
+    }
+}
+
+fn extend(frames: &mut Items<Frame>, operator: Infix, operand: Expr) -> Result<Phase, AllocError>
+    ensures { IfOk result (λ p. (text : List ℕ) →
+        state_of text frames.new p
+        ≡ extended operator (frames_of text frames.old) (expr_of text operand)) }
+{
+    match frames.pop() {
+        Some(
+            Frame::Infix {
+                first,
+                more,
+                operator: before,
+            },
+        ) => { go_on(frames, operator, first, more, before, operand) }
+        None
+        | Some(Frame::Prefix { at: _, prefix: _ })
+        | Some(
+            Frame::Colon {
+                condition: _,
+                chosen: _,
+            },
+        )
+        | Some(
+            Frame::Assigning {
+                assigning: _,
+                place: _,
+            },
+        )
+        | Some(Frame::Comma { first: _, more: _ })
+        | Some(Frame::Parentheses { at: _ })
+        | Some(Frame::Question { condition: _ })
+        | Some(Frame::Brackets(_))
+        | Some(
+            Frame::Arguments {
+                operand: _,
+                more: _,
+            },
+        ) => Ok(Phase::Broken),
+    }
+}
+
+fn go_on(
+    frames: &mut Items<Frame>,
+    operator: Infix,
+    first: Boxed<Expr>,
+    mut more: Items<(Infix, Expr)>,
+    before: Infix,
+    operand: Expr,
+) -> Result<Phase, AllocError>
+    ensures { IfOk result (λ p. (text : List ℕ) →
+        state_of text frames.new p ≡ awaits (behind_infix (expr_of text first)
+        (map (infixed_of text) more ++ (before, expr_of text operand) ∷ []) operator
+        ∷ frames_of text frames.old)) }
+{
+    more.push((before, operand))?;
+    open(
+        frames,
+        Frame::Infix {
+            first,
+            more,
+            operator,
+        },
+    )
+}
+
+fn begin_row(
+    alloc: Global,
+    frames: &mut Items<Frame>,
+    operator: Infix,
+    operand: Expr,
+) -> Result<Phase, AllocError>
+    ensures { IfOk result (λ p. (text : List ℕ) →
+        state_of text frames.new p
+        ≡ awaits (behind_infix (expr_of text operand) [] operator ∷ frames_of text frames.old)) }
+{
+    let first = Boxed::new(alloc, operand)?;
+    open(
+        frames,
+        Frame::Infix {
+            first,
+            more: Items::new(alloc),
+            operator,
+        },
+    )
+}
+
+pub(crate) fn operate(
+    alloc: Global,
+    frames: &mut Items<Frame>,
+    operator: Infix,
+    operand: Expr,
+) -> Result<Phase, AllocError>
+    ensures { IfOk result (λ p. (text : List ℕ) →
+        state_of text frames.new p
+        ≡ operated operator (frames_of text frames.old) (expr_of text operand)) }
+{
+    if has_row(frames, operator) {
+        extend(frames, operator, operand)
+    } else {
+        begin_row(alloc, frames, operator, operand)
+    }
+}
+
+fn has_list(frames: &Items<Frame>) -> bool
+    ensures { (text : List ℕ) → result ≡ has_commas (frames_of text frames.now) }
+{
+    match frames.as_slice() {
+        [] => false,
+        [.., frame] => is_list(frame),
+    }
+}
+
+fn is_list(frame: &Frame) -> bool
+    ensures { (text : List ℕ) (frames : List building.Frame) → result
+        ≡ has_commas (frame_of text frame.now ∷ frames) }
+{
+    match frame {
+        Frame::Comma { first: _, more: _ } => true,
+        Frame::Arguments {
+            operand: _,
+            more: _,
+        } => true,
+        Frame::Infix {
+            first: _,
+            more: _,
+            operator: _,
+        } => false,
+        Frame::Prefix { at: _, prefix: _ } => false,
+        Frame::Colon {
+            condition: _,
+            chosen: _,
+        } => false,
+        Frame::Assigning {
+            assigning: _,
+            place: _,
+        } => false,
+        Frame::Parentheses { at: _ } => false,
+        Frame::Question { condition: _ } => false,
+        Frame::Brackets(_) => false,
+    }
+}
+
+fn list(frames: &mut Items<Frame>, expr: Expr) -> Result<Phase, AllocError>
+    ensures { IfOk result (λ p. (text : List ℕ) →
+        state_of text frames.new p ≡ listed (frames_of text frames.old) (expr_of text expr)) }
+{
+    match frames.pop() {
+        Some(Frame::Comma { first, more }) => list_expr(frames, first, more, expr),
+        Some(Frame::Arguments { operand, more }) => list_argument(frames, operand, more, expr),
+        None
+        | Some(Frame::Prefix { at: _, prefix: _ })
+        | Some(
+            Frame::Infix {
+                first: _,
+                more: _,
+                operator: _,
+            },
+        )
+        | Some(
+            Frame::Colon {
+                condition: _,
+                chosen: _,
+            },
+        )
+        | Some(
+            Frame::Assigning {
+                assigning: _,
+                place: _,
+            },
+        )
+        | Some(Frame::Parentheses { at: _ })
+        | Some(Frame::Question { condition: _ })
+        | Some(Frame::Brackets(_)) => Ok(Phase::Broken),
+    }
+}
+
+fn list_expr(
+    frames: &mut Items<Frame>,
+    first: Boxed<Expr>,
+    mut more: Items<Expr>,
+    expr: Expr,
+) -> Result<Phase, AllocError>
+    ensures { IfOk result (λ p. (text : List ℕ) →
+        state_of text frames.new p ≡ awaits (behind_comma (expr_of text first)
+        (map (expr_of text) more ++ expr_of text expr ∷ []) ∷ frames_of text frames.old)) }
+{
+    more.push(expr)?;
+    open(frames, Frame::Comma { first, more })
+}
+
+fn list_argument(
+    frames: &mut Items<Frame>,
+    operand: Operand,
+    mut more: Items<Expr>,
+    expr: Expr,
+) -> Result<Phase, AllocError>
+    ensures { IfOk result (λ p. (text : List ℕ) →
+        state_of text frames.new p ≡ awaits (in_arguments (operand_of text operand)
+        (map (expr_of text) more ++ expr_of text expr ∷ []) ∷ frames_of text frames.old)) }
+{
+    more.push(expr)?;
+    open(frames, Frame::Arguments { operand, more })
+}
+
+fn begin_list(alloc: Global, frames: &mut Items<Frame>, expr: Expr) -> Result<Phase, AllocError>
+    ensures { IfOk result (λ p. (text : List ℕ) →
+        state_of text frames.new p
+        ≡ awaits (behind_comma (expr_of text expr) [] ∷ frames_of text frames.old)) }
+{
+    let first = Boxed::new(alloc, expr)?;
+    open(
+        frames,
+        Frame::Comma {
+            first,
+            more: Items::new(alloc),
+        },
+    )
+}
+
+pub(crate) fn separate(
+    alloc: Global,
+    frames: &mut Items<Frame>,
+    expr: Expr,
+) -> Result<Phase, AllocError>
+    ensures { IfOk result (λ p. (text : List ℕ) →
+        state_of text frames.new p
+        ≡ behind_the_comma (frames_of text frames.old) (expr_of text expr)) }
+{
+    if has_list(frames) {
+        list(frames, expr)
+    } else {
+        begin_list(alloc, frames, expr)
+    }
+}
+
+pub(crate) fn ask(
+    alloc: Global,
+    frames: &mut Items<Frame>,
+    condition: Expr,
+) -> Result<Phase, AllocError>
+    ensures { IfOk result (λ p. (text : List ℕ) →
+        state_of text frames.new p ≡ asked (frames_of text frames.old) (expr_of text condition)) }
+{
+    let condition = Boxed::new(alloc, condition)?;
+    open(frames, Frame::Question { condition })
+}
+
+pub(crate) fn assign(
+    alloc: Global,
+    frames: &mut Items<Frame>,
+    assigning: Assigning,
+    place: Expr,
+) -> Result<Phase, AllocError>
+    ensures { IfOk result (λ p. (text : List ℕ) →
+        state_of text frames.new p
+        ≡ assigned assigning (frames_of text frames.old) (expr_of text place)) }
+{
+    let place = Boxed::new(alloc, place)?;
+    open(frames, Frame::Assigning { assigning, place })
+}
+
+fn choose(
+    alloc: Global,
+    frames: &mut Items<Frame>,
+    condition: Boxed<Expr>,
+    chosen: Expr,
+) -> Result<Phase, AllocError>
+    ensures { IfOk result (λ p. (text : List ℕ) →
+        state_of text frames.new p
+        ≡ awaits (behind_colon (expr_of text condition) (expr_of text chosen)
+        ∷ frames_of text frames.old)) }
+{
+    let chosen = Boxed::new(alloc, chosen)?;
+    open(frames, Frame::Colon { condition, chosen })
+}
+
+pub(crate) fn end_chosen(
+    alloc: Global,
+    frames: &mut Items<Frame>,
+    chosen: Expr,
+) -> Result<Phase, AllocError>
+    ensures { IfOk result (λ p. (text : List ℕ) →
+        state_of text frames.new p
+        ≡ behind_the_colon (frames_of text frames.old) (expr_of text chosen)) }
+{
+    match frames.pop() {
+        Some(Frame::Question { condition }) => choose(alloc, frames, condition, chosen),
+        None
+        | Some(Frame::Prefix { at: _, prefix: _ })
+        | Some(
+            Frame::Infix {
+                first: _,
+                more: _,
+                operator: _,
+            },
+        )
+        | Some(
+            Frame::Colon {
+                condition: _,
+                chosen: _,
+            },
+        )
+        | Some(
+            Frame::Assigning {
+                assigning: _,
+                place: _,
+            },
+        )
+        | Some(Frame::Comma { first: _, more: _ })
+        | Some(Frame::Parentheses { at: _ })
+        | Some(Frame::Brackets(_))
+        | Some(
+            Frame::Arguments {
+                operand: _,
+                more: _,
+            },
+        ) => Ok(Phase::Broken),
+    }
+}
+
+fn nest(alloc: Global, at: u32, expr: Expr) -> Result<Phase, AllocError>
+    ensures { IfOk result (λ p. (text : List ℕ) (frames : List Frame) →
+        state_of text frames p
+        ≡ behind (frames_of text frames) (operand (nested at (expr_of text expr)))) }
+{
+    let expr = Boxed::new(alloc, expr)?;
+    Ok(read(alloc, Expr::Nested { at, expr }))
+}
+
+fn call(operand: Operand, mut more: Items<Expr>, last: Expr) -> Result<Phase, AllocError>
+    ensures { IfOk result (λ p. (text : List ℕ) (frames : List Frame) →
+        state_of text frames p
+        ≡ behind (frames_of text frames) (suffixed_by (operand_of text operand)
+        (call (exprs_of (map (expr_of text) more ++ expr_of text last ∷ []))))) }
+{
+    more.push(last)?;
+    suffix(operand, Suffix::Call(more))
+}
+
+pub(crate) fn end_parenthesis(
+    alloc: Global,
+    frames: &mut Items<Frame>,
+    expr: Expr,
+) -> Result<Phase, AllocError>
+    ensures { IfOk result (λ p. (text : List ℕ) →
+        state_of text frames.new p
+        ≡ behind_parenthesis (frames_of text frames.old) (expr_of text expr)) }
+{
+    match frames.pop() {
+        Some(Frame::Parentheses { at }) => nest(alloc, at, expr),
+        Some(Frame::Arguments { operand, more }) => call(operand, more, expr),
+        None
+        | Some(Frame::Prefix { at: _, prefix: _ })
+        | Some(
+            Frame::Infix {
+                first: _,
+                more: _,
+                operator: _,
+            },
+        )
+        | Some(
+            Frame::Colon {
+                condition: _,
+                chosen: _,
+            },
+        )
+        | Some(
+            Frame::Assigning {
+                assigning: _,
+                place: _,
+            },
+        )
+        | Some(Frame::Comma { first: _, more: _ })
+        | Some(Frame::Question { condition: _ })
+        | Some(Frame::Brackets(_)) => Ok(Phase::Broken),
+    }
+}
+
+pub(crate) fn end_bracket(frames: &mut Items<Frame>, expr: Expr) -> Result<Phase, AllocError>
+    ensures { IfOk result (λ p. (text : List ℕ) →
+        state_of text frames.new p
+        ≡ behind_bracket (frames_of text frames.old) (expr_of text expr)) }
+{
+    match frames.pop() {
+        Some(Frame::Brackets(operand)) => suffix(operand, Suffix::Index(expr)),
+        None
+        | Some(Frame::Prefix { at: _, prefix: _ })
+        | Some(
+            Frame::Infix {
+                first: _,
+                more: _,
+                operator: _,
+            },
+        )
+        | Some(
+            Frame::Colon {
+                condition: _,
+                chosen: _,
+            },
+        )
+        | Some(
+            Frame::Assigning {
+                assigning: _,
+                place: _,
+            },
+        )
+        | Some(Frame::Comma { first: _, more: _ })
+        | Some(Frame::Parentheses { at: _ })
+        | Some(Frame::Question { condition: _ })
+        | Some(
+            Frame::Arguments {
+                operand: _,
+                more: _,
+            },
+        ) => Ok(Phase::Broken),
+    }
+}
+
+fn call_bare(operand: Operand, more: Items<Expr>) -> Result<Phase, AllocError>
+    ensures { IfOk result (λ p. (text : List ℕ) (frames : List Frame) →
+        state_of text frames p ≡ behind_nothing (in_arguments (operand_of text operand)
+        (map (expr_of text) more) ∷ frames_of text frames)) }
+{
+    if more.is_empty() {
+        suffix(operand, Suffix::Call(more))
+    } else {
+        Ok(Phase::Broken)
+    }
+}
+
+pub(crate) fn end_nothing(frames: &mut Items<Frame>) -> Result<Phase, AllocError>
+    ensures { IfOk result (λ p. (text : List ℕ) →
+        state_of text frames.new p ≡ behind_nothing (frames_of text frames.old)) }
+{
+    match frames.pop() {
+        Some(Frame::Arguments { operand, more }) => call_bare(operand, more),
+        None
+        | Some(Frame::Prefix { at: _, prefix: _ })
+        | Some(
+            Frame::Infix {
+                first: _,
+                more: _,
+                operator: _,
+            },
+        )
+        | Some(
+            Frame::Colon {
+                condition: _,
+                chosen: _,
+            },
+        )
+        | Some(
+            Frame::Assigning {
+                assigning: _,
+                place: _,
+            },
+        )
+        | Some(Frame::Comma { first: _, more: _ })
+        | Some(Frame::Parentheses { at: _ })
+        | Some(Frame::Question { condition: _ })
+        | Some(Frame::Brackets(_)) => Ok(Phase::Broken),
+    }
+}
