@@ -1,23 +1,39 @@
 #!/usr/bin/env bash
-# Proves and builds a measuring program in a copy of the base crates, and runs it. usage: [WITH=..] run.sh NAME WORD..
-# NAME is heap_times, value_times or type_times; WITH is put before the run, as a profiler's call.
+# Proves and builds a measuring program in a copy of the crates that it stands on, and runs it. usage: [WITH=..] run.sh NAME WORD..
+# NAME is heap_times, value_times, type_times, flat_times, rewrite_times or lex_times; WITH is put before the run, as a profiler's
+# call. Files among the words have whole paths. NAME.txt is the program, NAME.specs.txt and NAME.proofs.txt what it proves with.
 set -eu
 top=$(cd "$(dirname "$0")/../.." && pwd)
 name=$1
 shift
 copy=$(mktemp -d)
 trap 'rm -rf "$copy"' EXIT
-base='porch_types porch_values porch_layout porch_metrics porch_heap'
+first=
+kit=
+flat='porch_types porch_values porch_flat porch_flat_line porch_flat_text'
+case $name in
+    flat_times) base=$flat kit=sqlite_items ;;
+    rewrite_times) base="$flat porch_objects porch_abstract porch_rewrite" kit=sqlite_items ;;
+    lex_times) base='porch_tree porch_lex' ;;
+    *) base='porch_types porch_values porch_layout porch_metrics porch_heap' first=none ;;
+esac
 mkdir -p "$copy/crates/$name/src"
 for crate in $base; do
     mkdir "$copy/crates/$crate"
     cp -r "$top/crates/$crate"/{src,specs,proofs} "$copy/crates/$crate/"
     grep "^$crate:" "$top/crates.txt" >> "$copy/crates.txt"
 done
-echo "$name: $base" >> "$copy/crates.txt"
+echo "$name: $base $kit" >> "$copy/crates.txt"
 cp "$top/docs/measured/$name.txt" "$copy/crates/$name/src/main.rt"
+for part in specs proofs; do
+    if [ -e "$top/docs/measured/$name.$part.txt" ]; then
+        mkdir "$copy/crates/$name/$part"
+        cp "$top/docs/measured/$name.$part.txt" "$copy/crates/$name/$part/Few.antt"
+        echo 'pub mod Few' > "$copy/crates/$name/$part/Lib.antt"
+    fi
+done
 cd "$copy/crates/$name"
-if ! rt run -- none > log 2>&1; then
+if ! rt run -- $first > log 2>&1; then
     cat log
     exit 1
 fi
