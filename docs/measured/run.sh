@@ -1,7 +1,7 @@
 #!/usr/bin/env bash
 # Proves and builds a measuring program in a copy of the crates that it stands on, and runs it. usage: [WITH=..] run.sh NAME WORD..
 # NAME is heap_times, value_times, type_times, flat_times, rewrite_times or lex_times; WITH is put before the run, as a profiler's
-# call. Files among the words have whole paths. NAME.txt is the program, NAME.specs.txt and NAME.proofs.txt what it proves with.
+# call. Files among the words have whole paths. NAME.txt is the program.
 set -eu
 top=$(cd "$(dirname "$0")/../.." && pwd)
 name=$1
@@ -25,13 +25,6 @@ for crate in $base; do
 done
 echo "$name: $base $kit" >> "$copy/crates.txt"
 cp "$top/docs/measured/$name.txt" "$copy/crates/$name/src/main.rt"
-for part in specs proofs; do
-    if [ -e "$top/docs/measured/$name.$part.txt" ]; then
-        mkdir "$copy/crates/$name/$part"
-        cp "$top/docs/measured/$name.$part.txt" "$copy/crates/$name/$part/Few.antt"
-        echo 'pub mod Few' > "$copy/crates/$name/$part/Lib.antt"
-    fi
-done
 cd "$copy/crates/$name"
 if ! rt run -- $first > log 2>&1; then
     cat log
