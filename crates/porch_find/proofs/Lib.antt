@@ -1,3 +1,4 @@
 pub mod Rising
 pub mod Elements
 pub mod Spotting
+pub mod LastRoot

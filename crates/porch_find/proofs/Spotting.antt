@@ -153,3 +153,8 @@ spots_one_at l types root count byte pointee leaf other true more m known a b = 
 
 pub spots_one : (l : Layout) (types : List Ty) (root count byte pointee : ℕ) (a b : Spot) → AreMeasured l types → root < length types → IsSpot l types root count byte pointee a → IsSpot l types root count byte pointee b → a ≡ b
 spots_one l types root count byte pointee a b m known x y = only_named a b (spots_one_at l types root count byte pointee a.leaf b.leaf a.past b.past m known x y)
+
+pub ends_inside : (l : Layout) (types : List Ty) (root count pointee leaf : ℕ) → AreMeasured l types → root < length types → IsSubobject types root count leaf pointee
+    → place_of l types root leaf + (extent_of l types pointee).size ≤ count * (extent_of l types root).size
+ends_inside l types root count pointee leaf m known sub =
+    omega (arith, m.apart root count leaf pointee (count * leaves_of types root) known sub (m.inside root count leaf pointee sub), m.elements root count known)

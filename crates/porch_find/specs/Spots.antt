@@ -1,6 +1,6 @@
 -- What a byte of an object names, by the type that is pointed to. An object is `count` elements of type
 -- `root`; bytes are counted from its beginning.
-use Rattle.std.specs.Prelude.{◌≡◌, ℕ, ◌+◌, ◌*◌, ◌<◌, List, length, MatchBool, true, false}
+use Rattle.std.specs.Prelude.{◌≡◌, ℕ, ◌+◌, ◌*◌, ◌<◌, ◌≤◌, List, length, MatchBool, true, false}
 use Rattle.porch_types.specs.declared.shapes.Ty.{Ty}
 use Rattle.porch_types.specs.declared.parts.Row.{Row}
 use Rattle.porch_types.specs.Leaves.{IsTypes, leaves_of}
@@ -61,3 +61,12 @@ SpotsAreOne =
     → IsLayout under → IsTypes types → root < length types
     → IsSpot under types root count byte pointee a → IsSpot under types root count byte pointee b
     → a ≡ b
+
+-- a subobject ends at or before the end of its object
+abbrev pub SubobjectsEndInside : Type 0
+SubobjectsEndInside =
+    (under : Layout) (types : List Ty) (root count pointee leaf : ℕ)
+    → IsLayout under → IsTypes types → root < length types
+    → IsSubobject types root count leaf pointee
+    → place_of under types root leaf + (extent_of under types pointee).size
+    ≤ count * (extent_of under types root).size

@@ -8,10 +8,12 @@ mod ends;
 mod forms;
 mod laws;
 mod leaf;
+mod roots;
 mod search;
 mod spot;
 
 pub use ends::ends_row;
-pub use laws::places_name_spots;
+pub use laws::{places_name_spots, subobjects_end_inside};
+pub use roots::{Root, Roots};
 pub use search::{find, find_ucf};
 pub use spot::Spot;

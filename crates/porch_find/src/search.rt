@@ -48,7 +48,8 @@ fn find_in(
     requires root { root < length metrics.now.types }
     requires pointee { pointee < length metrics.now.types }
     ensures spot { (spot : Spot) → (result ≡ Some spot)
-        ↔ IsSpot (layout_in form metrics.now.layout) metrics.now.types root count byte pointee spot }
+        ↔ IsSpot (layout_in form metrics.now.layout) metrics.now.types root count byte pointee
+        spot }
     ensures within { IfSome result (λ spot. spot.leaf < count * leaves_of metrics.now.types root) }
 {
     forms_are_measured(metrics, form);
@@ -73,7 +74,8 @@ fn begin_at(
     requires root { root < length metrics.now.types }
     requires pointee { pointee < length metrics.now.types }
     ensures some { IfSome result (λ leaf.
-        BeginsAt (layout_in form metrics.now.layout) metrics.now.types root count byte pointee leaf) }
+        BeginsAt (layout_in form metrics.now.layout) metrics.now.types root count byte pointee
+        leaf) }
     ensures within { IfSome result (λ leaf. leaf < count * leaves_of metrics.now.types root) }
     ensures none { IfNone result ((leaf : ℕ) →
         BeginsAt (layout_in form metrics.now.layout) metrics.now.types root count byte pointee leaf
