@@ -1,6 +1,6 @@
 //! Objects by where they begin.
 
-ghost use Rattle.std.specs.Prelude.{◌≡◌, ◌↔◌, ◌<◌, ◌≤◌, ◌+◌, ◌++◌, ◌∷◌, [], ℕ, length, Some, IfOk};
+ghost use Rattle.std.specs.Prelude.{◌≡◌, ◌↔◌, ◌<◌, ◌≤◌, ◌+◌, ◌++◌, ◌∷◌, ◌^◌, [], ℕ, length, slice_get, Some, IfSome, IfOk};
 ghost use Rattle.porch_find.specs.Roots.{IsRising, IsLastAt};
 
 use std::alloc::{AllocError, Global};
@@ -48,6 +48,17 @@ impl Roots {
         self.roots.as_slice()
     }
 
+    /// The root of a number.
+    pub fn get(&self, number: usize) -> Root
+        requires { number < length self.now.items }
+        ensures root { slice_get self.now.items number ≡ Some result }
+        ensures few { result.count < 2 ^ 32 }
+    {
+        let root = self.roots[number];
+        counts_fit(root.count);
+        root
+    }
+
     /// Puts a root last. It takes no memory.
     pub fn put(&mut self, root: Root)
         requires { length self.old.items < self.old.room }
@@ -68,7 +79,8 @@ impl Roots {
     /// The number of the last root that begins at or before a place; none where all begin after it.
     pub fn root_at(&self, place: u64) -> Option<usize>
         requires { IsRising self.now.items }
-        ensures { (i : ℕ) → (result ≡ Some i) ↔ IsLastAt self.now.items place i }
+        ensures last { (i : ℕ) → (result ≡ Some i) ↔ IsLastAt self.now.items place i }
+        ensures within { IfSome result (λ i. i < length self.now.items) }
     {
         last_at(self.roots.as_slice(), place)
     }
@@ -77,7 +89,8 @@ impl Roots {
 /// Halves the roots between those that begin at or before the place and those that begin after it.
 fn last_at(roots: &[Root], place: u64) -> Option<usize>
     requires { IsRising roots.now }
-    ensures { (i : ℕ) → (result ≡ Some i) ↔ IsLastAt roots.now place i }
+    ensures last { (i : ℕ) → (result ≡ Some i) ↔ IsLastAt roots.now place i }
+    ensures within { IfSome result (λ i. i < length roots.now) }
 {
     let mut low = 0;
     let mut high = roots.len();
@@ -91,3 +104,8 @@ fn last_at(roots: &[Root], place: u64) -> Option<usize>
     }
     if low == 0 { None } else { Some(low - 1) }
 }
+
+/// A number of 32 bits is one, which the range of a parameter says.
+fn counts_fit(count: u32)
+    ensures { count < 2 ^ 32 }
+{}

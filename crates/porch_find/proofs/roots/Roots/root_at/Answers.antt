@@ -7,7 +7,7 @@ last_at-requires c =
     let items : c.as_slice.result.now ≡ c.args.self.now.items = rw (← c.self.view_is) c.as_slice.ensures.value in
     subst IsRising (sym items) c.requires
 
-pub returns : goal.returns
-returns c = λ i.
+pub returns-clause-last : goal.returns-clause-last
+returns-clause-last c = λ i.
     let items : c.as_slice.result.now ≡ c.args.self.now.items = rw (← c.self.view_is) c.as_slice.ensures.value in
-    subst (λ roots. (c.last_at.result ≡ Some i) ↔ IsLastAt roots c.args.place i) items (c.last_at.ensures i)
+    subst (λ roots. (c.last_at.result ≡ Some i) ↔ IsLastAt roots c.args.place i) items (c.last_at.ensures.last i)
