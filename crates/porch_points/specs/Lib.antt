@@ -1,0 +1,4 @@
+-- where the live objects are, in memory and in the data of a checkpoint
+pub mod Plans
+-- the words of addresses, and the addresses of words
+pub mod Words
