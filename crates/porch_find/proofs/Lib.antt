@@ -2,3 +2,4 @@ pub mod Rising
 pub mod Elements
 pub mod Spotting
 pub mod LastRoot
+pub mod WorkedTypes

@@ -11,9 +11,11 @@ mod leaf;
 mod roots;
 mod search;
 mod spot;
+mod worked;
 
 pub use ends::ends_row;
 pub use laws::{places_name_spots, subobjects_end_inside};
 pub use roots::{Root, Roots};
 pub use search::{find, find_ucf};
 pub use spot::Spot;
+pub use worked::{ends_of_members, worked_types_are_types};
