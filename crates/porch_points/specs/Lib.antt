@@ -2,3 +2,5 @@
 pub mod Plans
 -- the words of addresses, and the addresses of words
 pub mod Words
+-- objects on which an example is worked out
+pub mod Worked

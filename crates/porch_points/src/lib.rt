@@ -7,7 +7,9 @@ mod addresses;
 mod named;
 mod plan;
 mod words;
+mod worked;
 
 pub use addresses::{BadWord, to_address};
 pub use plan::{DEAD, Plan, dead_is_all_ones};
 pub use words::to_word;
+pub use worked::pointers_into_an_array;
