@@ -59,6 +59,7 @@ pub record Holds (l : Layout) (types : List Ty) (root count byte leaf : ℕ) : T
   pub element : byte / (extent_of l types root).size < count
   pub inner : place_of l types root (leaf % leaves_of types root) ≡ byte % (extent_of l types root).size
   pub within : leaf % leaves_of types root < leaves_of types root
+  pub index : leaf / leaves_of types root ≡ byte / (extent_of l types root).size
 
 pub holds : (l : Layout) (types : List Ty) (root count byte leaf : ℕ) → AreMeasured l types → root < length types → leaf < count * leaves_of types root → place_of l types root leaf ≡ byte
     → Holds l types root count byte leaf
@@ -79,4 +80,5 @@ holds l types root count byte leaf m known lt at =
       element = omega (arith, quotient, element);
       inner = sym rest;
       within = less;
+      index = sym quotient;
     }

@@ -3,3 +3,4 @@ pub mod Elements
 pub mod Spotting
 pub mod LastRoot
 pub mod WorkedTypes
+pub mod Arrays
