@@ -48,6 +48,7 @@ fn leaf_within(metrics: &Metrics, form: Form, ty: u32, byte: u64) -> Option<u64>
 {
     forms_are_measured(metrics, form);
     let types = metrics.types();
+    // a type has few leaves, so that no sum below passes 2^64
     let most = types.leaves(ty);
     let mut whole = ty;
     let mut before = 0;
