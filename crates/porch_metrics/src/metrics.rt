@@ -48,6 +48,13 @@ impl Metrics {
         })
     }
 
+    /// The types that were measured.
+    pub fn types(&self) -> &Types
+        ensures { result.now ≡ self.now.types }
+    {
+        &self.types
+    }
+
     /// The layout under which the types were measured.
     pub fn layout(&self) -> Layout
         ensures value { result ≡ self.now.layout }

@@ -1,0 +1,6 @@
+-- where the live objects are, in memory and in the data of a checkpoint
+pub mod Plans
+-- the words of addresses, and the addresses of words
+pub mod Words
+-- objects on which an example is worked out
+pub mod Worked
