@@ -9,6 +9,7 @@ pub mod KindWords
 pub mod Meaning
 pub mod Passes
 pub mod Sound
+pub mod Stages
 pub mod Tokens
 pub mod Units
 pub mod Upward

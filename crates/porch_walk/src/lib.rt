@@ -8,6 +8,7 @@
 
 mod advance;
 pub mod laws;
+mod stage;
 mod step;
 pub mod symbol;
 pub mod worked;
