@@ -4,6 +4,7 @@ pub mod Declarators
 pub mod Expressions
 pub mod First
 pub mod Joined
+pub mod Judging
 pub mod Kept
 pub mod KindWords
 pub mod Meaning

@@ -1,5 +1,5 @@
 -- What the code keeps of where a walk stands, behind one more token.
-use Rattle.std.proofs.Common.{◌≡◌, ℕ, Bool, true, false, nat_eq, ◌||◌, if◌then◌else◌, List, [], ◌∷◌, ◌++◌, Option, Some, None, refl, sym, ap, ◌∙◌, true≢false, Bor}
+use Rattle.std.proofs.Common.{◌≡◌, ℕ, Bool, true, false, nat_eq, ◌||◌, if◌then◌else◌, List, [], ◌∷◌, ◌++◌, Option, Some, None, refl, sym, ap, ◌∙◌, fold, length, ◌≤◌, arith, Bor}
 use Rattle.std.specs.List.{list_any}
 use Rattle.std.specs.Str.{bytes_eq}
 use lib.Pointwise.{bytes_decides}
@@ -8,7 +8,7 @@ use Rattle.porch_tree.specs.declared.word.Word.{Word}
 use Rattle.porch_walk.specs.declared.symbol.Symbol.{Symbol}
 use Rattle.porch_walk.specs.declared.stage.Stage.{Stage as Kept}
 use Rattle.porch_walk.specs.declared.step.Turn.{Turn}
-use Rattle.porch_walk.specs.Walk.{Stage, names_type, name_bytes, step}
+use Rattle.porch_walk.specs.Walk.{Stage, names_type, name_bytes, step, ends_here}
 use Rattle.porch_walk.specs.inside.Steps.{upward, Moved, TurnedAt}
 use Rattle.porch_walk.specs.inside.Stages.{AreTypes, Stands}
 
@@ -42,3 +42,12 @@ pub moved : (t : Turn) (k : Kept) (s : Stage) (w : Word) (bs own : List ℕ) (kn
 moved t k s w bs own known ss st e h m =
     rw (st.inside, st.pending) at
     (m s.types s.fresh (name_bytes w bs) (sym (h ∙ st.types own ∙ ap (names_type s.types) e)))
+
+-- where something is pending no unit ends
+pub pending_on : (ss : List Symbol) (b : Bool) → 1 ≤ length ss → ends_here (upward ss) b ≡ false
+pending_on [] b h = absurd (omega (arith, h))
+pending_on (x ∷ ss) b h = on x [] ss
+  where
+    on : (y : Symbol) (ys zs : List Symbol) → ends_here (fold (λ above s. s ∷ above) (y ∷ ys) zs) b ≡ false
+    on y ys [] = refl
+    on y ys (z ∷ zs) = on z (y ∷ ys) zs

@@ -1,11 +1,9 @@
 //! Where a walk stands, and one more token behind it.
 
-ghost use Rattle.std.specs.Prelude.{◌≡◌, IfOk, List, ℕ, Bool};
-ghost use Rattle.std.specs.List.{list_any};
-ghost use Rattle.std.specs.Str.{bytes_eq};
-ghost use Rattle.porch_walk.specs.Walk.{Stage as Standing, start, step, is_over, name_bytes, names_type};
+ghost use Rattle.std.specs.Prelude.{◌≡◌, IfOk};
+ghost use Rattle.porch_walk.specs.Walk.{Stage as Standing, step, is_over, ends_here, name_bytes};
+ghost use Rattle.porch_walk.specs.inside.Steps.{upward};
 ghost use Rattle.porch_walk.specs.inside.Stages.{Stands, Stepped};
-ghost use Rattle.porch_lex.specs.Words.{bytes_between};
 
 use crate::advance::go_on;
 use crate::step::Turn;
@@ -65,7 +63,16 @@ pub(crate) fn take_word<'t>(
 pub(crate) fn is_over(stage: &Stage<'_>) -> bool
     ensures { (s : Standing) → Stands stage.now s → result ≡ is_over s }
 {
-    stage.pending.is_empty() && !stage.inside
+    ends_here(&stage.pending, stage.inside)
+}
+
+fn ends_here(pending: &[Symbol], inside: bool) -> bool
+    ensures { result ≡ ends_here (upward pending.now) inside }
+{
+    match pending {
+        [] => !inside,
+        [_, ..] => false,
+    }
 }
 
 // only a name has bytes
