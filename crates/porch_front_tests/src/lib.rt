@@ -5,3 +5,5 @@
 
 #[cfg(test)]
 mod tokens;
+#[cfg(test)]
+mod walk;

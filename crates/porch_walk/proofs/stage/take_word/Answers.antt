@@ -1,4 +1,4 @@
-use Rattle.std.proofs.Common.{◌≡◌, refl, ◌∷◌, true, false}
+use Rattle.std.proofs.Common.{refl, ◌∷◌, true, false}
 use Rattle.porch_walk.specs.declared.step.Turn.TheVariants as turn
 use Rattle.porch_walk.specs.Walk.{name_bytes}
 use Rattle.porch_walk.specs.inside.Steps.{upward}
