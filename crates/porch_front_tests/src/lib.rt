@@ -7,3 +7,5 @@
 mod expressions;
 #[cfg(test)]
 mod tokens;
+#[cfg(test)]
+mod walk;

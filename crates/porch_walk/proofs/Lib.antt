@@ -4,11 +4,13 @@ pub mod Declarators
 pub mod Expressions
 pub mod First
 pub mod Joined
+pub mod Judging
 pub mod Kept
 pub mod KindWords
 pub mod Meaning
 pub mod Passes
 pub mod Sound
+pub mod Stages
 pub mod Tokens
 pub mod Units
 pub mod Upward

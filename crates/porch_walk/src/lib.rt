@@ -7,9 +7,14 @@
 #![tactic(auto)]
 
 mod advance;
+mod along;
 pub mod laws;
+mod stage;
 mod step;
 pub mod symbol;
 pub mod worked;
+pub mod wrong;
 
+pub use along::first_wrong;
 pub use symbol::{Kinds, Mode, Naming, Symbol};
+pub use wrong::{WalkFault, WrongToken};
