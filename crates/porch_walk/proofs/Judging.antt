@@ -1,15 +1,17 @@
 -- One token, and the bytes that spell it.
-use Rattle.std.proofs.Common.{◌≡◌, ◌≤◌, ◌+◌, ℕ, Bool, false, zero, suc, List, [], ◌∷◌, map, take, drop, length, Option, Some, None, refl, sym, ap, ◌∙◌, arith}
+use Rattle.std.proofs.Common.{◌≡◌, ◌≤◌, ◌+◌, ℕ, Bool, false, zero, suc, List, [], ◌∷◌, map, take, drop, length, Option, Some, None, refl, sym, subst, ap, ◌∙◌, arith}
 use Rattle.std.proofs.lemmas.Option.{none-some}
 use Rattle.porch_lex.specs.declared.token.Token.{Token}
 use Rattle.porch_lex.specs.Words.{kind_word, bytes_between, spelled_token, spelled}
 use Rattle.porch_tree.specs.declared.word.Word.{Word}
+use Rattle.porch_tree.specs.Pieces.{Spelled}
 use Rattle.porch_tree.specs.Grammar.{is_outside}
 use Rattle.porch_walk.specs.declared.stage.Stage.{Stage as Kept}
-use Rattle.porch_walk.specs.Walk.{Stage, step, start, wrong, wrong_at}
+use Rattle.porch_walk.specs.Walk.{Stage, Wrong, Told, step, start, wrong, wrong_at}
 use Rattle.porch_walk.specs.declared.wrong.WalkFault.{WalkFault}
 use Rattle.porch_walk.specs.Wrongs.{fault_of}
 use Rattle.porch_walk.specs.inside.Stages.{Stands, StandsBehind, JudgedOn, Judged, Walked, words_of}
+use Rattle.porch_walk.proofs.First.{told}
 
 pub words_are : (text : List ℕ) (ts : List Token) → map (λ q. q.word) (spelled text ts) ≡ words_of ts
 words_are text [] = refl
@@ -69,3 +71,7 @@ pub walked_to : (text : List ℕ) (ts : List Token) (i : ℕ) (t : Token) (rest 
 walked_to text ts i t rest k next o f w d r e j =
     let at_token : wrong i w.stage (spelled_token text t ∷ spelled text rest) ≡ wrong_at i (fault_of f) = rw e at j in
     sym at_token ∙ ap (λ us. wrong i w.stage (spelled text us)) (sym (d ∙ ap (λ us. t ∷ us) (sym r))) ∙ w.same
+
+-- what is said of what the walk finds is said of what is the same
+pub told_of : (ts : List Spelled) (w : Option Wrong) → w ≡ wrong 0 start ts → Told ts w
+told_of ts w e = subst (λ x. Told ts x) (sym e) (told ts)

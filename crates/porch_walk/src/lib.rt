@@ -1,9 +1,10 @@
 //! The first wrong token of a source text: a walk along its tokens with what may still be to come,
 //! which builds no tree.
 //!
-//! `specs/Walk` has the walk as a definition, `laws` what it says of the units of the grammar, and
-//! `worked` some small texts. `symbol` has what may still be to come, `step` what each symbol does with
-//! a word, and `advance` what all that is pending does with one.
+//! `first_wrong` is the one call, and `wrong` has what it answers. `specs/Walk` has the walk as a
+//! definition, `laws` what it says of the units of the grammar, and `worked` some small texts. `symbol` has
+//! what may still be to come, `step` what each symbol does with a word, `advance` what all that is pending
+//! does with one, `stage` where a walk stands, and `along` goes over the tokens.
 #![tactic(auto)]
 
 mod advance;

@@ -1,7 +1,7 @@
 use Rattle.std.proofs.Common.{refl, ◌+◌}
 use Rattle.std.proofs.lemmas.List.{drop_more, take_rest}
 use Rattle.porch_walk.proofs.Judging.{walked_first, walked_on, walked_to}
-use Rattle.porch_walk.proofs.along.first_wrong.Goals as goal
+use Rattle.porch_walk.proofs.along.first_place.Goals as goal
 
 pub loop-i-init : goal.loop-i-init
 loop-i-init c = walked_first c.args.text.now c.args.tokens.now _ c.new.ensures.empty refl refl c.new-2.ensures.items
