@@ -1,0 +1,9 @@
+pub mod Rising
+pub mod Found
+pub mod Stacked
+pub mod Blocks
+pub mod Kept
+pub mod Unknown
+pub mod Leaves
+pub mod Ended
+pub mod Allocating

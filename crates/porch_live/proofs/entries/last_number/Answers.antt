@@ -1,0 +1,11 @@
+use Rattle.std.proofs.Common.{◌≡◌, ◌+◌, ◌-◌, ◌<◌, length, Some, slice_get, arith, ◌∙◌, sym}
+use Rattle.std.proofs.lemmas.Option.{slice_get_within}
+use Rattle.porch_live.proofs.Stacked.{number_of_last}
+use Rattle.porch_live.proofs.entries.last_number.Goals as goal
+
+pub returns-in-Some : goal.returns-in-Some
+returns-in-Some c =
+    let es = c.args.entries.now in
+    let there : slice_get es (length es - 1) ≡ Some c.in-Some.entry.now = sym c.in-Some.ensures.value in
+    let within : length es - 1 < length es = slice_get_within es (length es - 1) c.in-Some.entry.now there in
+    c.number.ensures ∙ sym (number_of_last es _ (length es - 1) c.args.none c.in-Some.entry.now (omega (arith, within)) there)

@@ -1,0 +1,4 @@
+-- What only the contracts of the crate's own functions cite.
+pub mod Entries
+pub mod Freeing
+pub mod Rows

@@ -1,0 +1,68 @@
+//! The objects of one call or of one allocation, under its number.
+ghost use Rattle.std.specs.Prelude.{◌≡◌, [], slice_get};
+ghost use Rattle.std.specs.Option.{option_map};
+ghost use Rattle.porch_objects.specs.Store.{changed_at};
+ghost use Rattle.porch_live.specs.Views.{value_of};
+ghost use Rattle.porch_live.specs.inside.Entries.{is_live, with_leaf, with_variables};
+
+use crate::object::{Object, set_leaf_of};
+use crate::value::Value;
+use std::marker::Model;
+
+/// The objects of a call or of an allocation. Contracts see it as a call with its variables.
+#[derive(Drop)]
+pub(crate) struct Entry {
+    number: u64,
+    objects: Vec<Object>,
+}
+
+impl Model for Entry {
+    ghost use Rattle.porch_objects.specs.Store as store;
+
+    ghost Value = { store.Activation };
+
+    ghost view = { λ e. record { number = e.number; variables = e.objects.items } };
+}
+
+impl Entry {
+    pub(crate) fn new(number: u64, objects: Vec<Object>) -> Entry
+        ensures { result ≡ record { number = number; variables = objects.items } }
+    {
+        Entry { number, objects }
+    }
+
+    pub(crate) fn number(&self) -> u64
+        ensures { result ≡ self.now.number }
+    {
+        self.number
+    }
+
+    pub(crate) fn object(&self, index: usize) -> Option<&Object>
+        ensures { option_map (λ object. object.now) result ≡ slice_get self.now.variables index }
+    {
+        self.objects.get(index)
+    }
+
+    /// Gives a leaf of an object a value, where it is there.
+    pub(crate) fn set_leaf(&mut self, index: usize, leaf: u64, value: Value)
+        ensures { self.new ≡ with_variables self.old (changed_at (with_leaf leaf (value_of value))
+            self.old.variables (slice_get self.old.variables index) index) }
+    {
+        set_leaf_of(&mut self.objects, index, leaf, value);
+    }
+
+    /// Whether it has an object.
+    pub(crate) fn is_live(&self) -> bool
+        ensures { result ≡ is_live self.now }
+    {
+        !self.objects.is_empty()
+    }
+
+    /// Its objects come to their end.
+    pub(crate) fn end(&mut self)
+        ensures { self.new ≡ with_variables self.old [] }
+    {
+        let alloc = *self.objects.allocator();
+        self.objects = Vec::new(alloc);
+    }
+}

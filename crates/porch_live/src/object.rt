@@ -1,0 +1,133 @@
+//! Objects, each a root with the values of its leaves.
+ghost use Rattle.std.specs.Prelude.{◌≡◌, ◌∷◌, [], length, slice_get, slice_set, slice_index_or, IfOk};
+ghost use Rattle.porch_objects.specs.Store.{indeterminate, with_leaves, changed_at, fresh, zeroed};
+ghost use Rattle.porch_objects.specs.Pointers.{block_of};
+ghost use Rattle.porch_live.specs.Views.{value_of, root_of};
+ghost use Rattle.porch_live.specs.inside.Entries.{with_leaf};
+
+use crate::roots::{leaves_in, zero_of};
+use crate::value::Value;
+use porch_types::Types;
+use std::alloc::{AllocError, Global};
+use std::marker::Model;
+
+/// So many elements of a type in a row.
+#[derive(Clone, Copy, Debug)]
+pub struct Root {
+    pub ty: u32,
+    pub count: u32,
+}
+
+/// An object. Contracts see its root and the values of its leaves in order.
+#[derive(Drop)]
+pub struct Object {
+    root: Root,
+    leaves: Vec<Value>,
+}
+
+impl Model for Object {
+    ghost use Rattle.std.specs.Prelude.{map};
+    ghost use Rattle.porch_objects.specs.Store as store;
+
+    ghost Value = { store.Object };
+
+    ghost use Rattle.porch_live.specs.Views.{value_of, root_of};
+
+    ghost view = { λ o. record { root = root_of o.root; leaves = map value_of o.leaves.items } };
+}
+
+impl Object {
+    /// An object that was given no value.
+    pub fn fresh(alloc: Global, types: &Types, root: Root) -> Result<Object, AllocError>
+        ensures { IfOk result (λ object. object ≡ fresh types.now (root_of root)) }
+    {
+        let mut leaves = Vec::new(alloc);
+        leaves.resize(leaves_in(types, root) as usize, Value::Indeterminate)?;
+        Ok(Object { root, leaves })
+    }
+
+    /// An object whose leaves are all 0 and null.
+    pub fn zeroed(alloc: Global, types: &Types, root: Root) -> Result<Object, AllocError>
+        ensures { IfOk result (λ object. object ≡ zeroed types.now (root_of root)) }
+    {
+        let count = leaves_in(types, root);
+        let mut leaves = Vec::with_capacity(alloc, count as usize)?;
+        for leaf in 0..count {
+            leaves.push(zero_of(types, types.leaf_type(root.ty, leaf)))?;
+        }
+        Ok(Object { root, leaves })
+    }
+
+    /// The root.
+    pub fn root(&self) -> Root
+        ensures { root_of result ≡ self.now.root }
+    {
+        self.root
+    }
+
+    /// How many leaves it has.
+    pub fn len(&self) -> usize
+        ensures { result ≡ length self.now.leaves }
+    {
+        self.leaves.len()
+    }
+
+    /// The value of a leaf; indeterminate behind the last.
+    pub fn leaf(&self, leaf: u64) -> Value
+        ensures { value_of result ≡ slice_index_or self.now.leaves leaf indeterminate }
+    {
+        let at = leaf as usize;
+        if at < self.leaves.len() {
+            self.leaves[at]
+        } else {
+            Value::Indeterminate
+        }
+    }
+
+    /// Gives a leaf a value. Behind the last leaf nothing changes.
+    pub fn set_leaf(&mut self, leaf: u64, value: Value)
+        ensures { self.new ≡ with_leaves self.old (slice_set self.old.leaves leaf (value_of value)) }
+    {
+        let at = leaf as usize;
+        if at < self.leaves.len() {
+            self.leaves[at] = value;
+        }
+    }
+}
+
+/// Gives a leaf of one of these objects a value, where it is there.
+pub(crate) fn set_leaf_of(objects: &mut [Object], index: usize, leaf: u64, value: Value)
+    ensures { objects.new ≡ changed_at (with_leaf leaf (value_of value)) objects.old
+        (slice_get objects.old index) index }
+{
+    if index < objects.len() {
+        let object = &mut objects[index];
+        object.set_leaf(leaf, value);
+    }
+}
+
+/// An object that is zero or without a value.
+pub(crate) fn new_object(
+    alloc: Global,
+    types: &Types,
+    zeros: bool,
+    root: Root,
+) -> Result<Object, AllocError>
+    ensures { IfOk result (λ object. object ≡ block_of types.now zeros (root_of root)) }
+{
+    if zeros {
+        Object::zeroed(alloc, types, root)
+    } else {
+        Object::fresh(alloc, types, root)
+    }
+}
+
+pub(crate) fn one_object(alloc: Global, object: Object) -> Result<Vec<Object>, AllocError>
+    ensures { IfOk result (λ objects. objects.items ≡ object ∷ []) }
+{
+    let mut objects = Vec::new(alloc);
+    match objects.push(object) {
+        Ok(()) => Ok(objects),
+        Err(_) => Err(AllocError),
+    }
+}
