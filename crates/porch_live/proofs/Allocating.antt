@@ -1,5 +1,5 @@
 -- What an allocation is where its count may be one.
-use Rattle.std.proofs.Common.{◌≡◌, ℕ, Bool, true, false, ◌||◌, Option, Some, None, Result, Ok, Err, List, refl, ap, ◌∙◌, sym}
+use Rattle.std.proofs.Common.{◌≡◌, ℕ, Bool, true, false, ◌||◌, Some, None, Result, Ok, Err, List, ap, sym}
 use Rattle.std.specs.Prelude.{ℤ, pos, int_lt, unsigned_abs, if◌then◌else◌}
 use Rattle.porch_types.specs.declared.shapes.Ty.{Ty}
 use Rattle.porch_values.specs.declared.acts.Act.{Act}

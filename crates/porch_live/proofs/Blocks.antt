@@ -1,10 +1,9 @@
 -- The allocations of entries.
-use Rattle.std.proofs.Common.{◌≡◌, ℕ, ◌+◌, ◌<◌, true, false, nat_eq, List, [], ◌∷◌, ◌++◌, Some, None, refl, ap, sym, ◌∙◌, inl, inr, slice_get}
+use Rattle.std.proofs.Common.{◌≡◌, ℕ, ◌+◌, true, false, nat_eq, List, [], ◌∷◌, ◌++◌, None, refl, ap, ◌∙◌, inl, inr, slice_get}
 use Rattle.std.proofs.lemmas.Bool.Decides.{eqb_tells}
-use Rattle.std.specs.Prelude.{if◌then◌else◌}
 use Rattle.porch_objects.specs.Store.{Object, Activation, HeapObject, variables_in, block_in, changed_at, changed_calls, changed_blocks}
-use Rattle.porch_live.specs.inside.Entries.{IsRising, IsBelow, blocks_of, block_before}
-use Rattle.porch_live.proofs.Stacked.{has, none_after, absent_variables}
+use Rattle.porch_live.specs.inside.Entries.{IsRising, blocks_of, block_before}
+use Rattle.porch_live.proofs.Stacked.{has, none_after}
 
 -- what stands before other allocations
 block_elsewhere : (number : ℕ) (vs : List Object) (more : List HeapObject) (n : ℕ) → nat_eq number n ≡ false

@@ -1,10 +1,10 @@
 -- Entries whose objects have come to their end, and lists without them.
-use Rattle.std.proofs.Common.{◌≡◌, ℕ, zero, suc, ◌+◌, ◌<◌, ◌≤◌, Bool, true, false, not, nat_eq, List, [], ◌∷◌, length, filter, refl, sym, ap, ◌∙◌, inl, inr, arith}
+use Rattle.std.proofs.Common.{◌≡◌, ℕ, ◌+◌, ◌<◌, ◌≤◌, Bool, true, false, not, nat_eq, List, [], ◌∷◌, length, filter, refl, sym, ap, ◌∙◌, inl, inr, arith}
 use Rattle.std.proofs.lemmas.Bool.Decides.{eqb_tells}
 use Rattle.std.specs.Prelude.{if◌then◌else◌}
 use Rattle.porch_objects.specs.Store.{Object, Activation, HeapObject}
 use Rattle.porch_objects.specs.Pointers.{without_block}
-use Rattle.porch_live.specs.inside.Entries.{IsRising, IsBelow, AreEntries, blocks_of, block_before, ended, is_live}
+use Rattle.porch_live.specs.inside.Entries.{IsRising, IsBelow, blocks_of, block_before, ended, is_live}
 use Rattle.porch_live.proofs.Stacked.{has, none_after}
 
 without_elsewhere : (number : ℕ) (vs : List Object) (more : List HeapObject) (n : ℕ) → nat_eq number n ≡ false

@@ -7,3 +7,7 @@ pub mod Unknown
 pub mod Leaves
 pub mod Ended
 pub mod Allocating
+pub mod Used
+pub mod Parts
+pub mod Copying
+pub mod BytesOfTexts

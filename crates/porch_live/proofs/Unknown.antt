@@ -1,12 +1,12 @@
 -- What definitions say of a type that a list doesn't have.
-use Rattle.std.proofs.Common.{◌≡◌, ℕ, zero, suc, ◌+◌, ◌-◌, ◌*◌, ◌/◌, ◌^◌, ◌<◌, ◌≤◌, Bool, true, false, ◌&&◌, nat_eq, nat_lt, List, [], ◌∷◌, ◌++◌, length, Option, Some, None, IfSome, refl, sym, ap, ◌∙◌, inl, inr, arith}
+use Rattle.std.proofs.Common.{◌≡◌, ℕ, zero, suc, ◌+◌, ◌-◌, ◌*◌, ◌^◌, ◌<◌, ◌≤◌, Bool, true, false, ◌&&◌, nat_eq, nat_lt, List, [], ◌∷◌, ◌++◌, length, Option, Some, None, IfSome, refl, sym, ap, ◌∙◌, inl, inr, arith}
 use Rattle.std.proofs.lemmas.Bool.{eq-eqb, eqb-true}
 use Rattle.std.proofs.lemmas.Bool.Decides.{eqb_tells}
 use Rattle.std.proofs.lemmas.Option.{slice_get_cases, slice_get_past}
-use Rattle.std.proofs.Math.Nat.{mul-le-mul, mul-le-mul_right, div-zero}
+use Rattle.std.proofs.Math.Nat.{mul-le-mul, mul-le-mul_right, le-mul_of_pos_right, div-zero}
 use Rattle.std.proofs.lemmas.List.{get_or_past, length-append}
 use Rattle.std.specs.Option.{option_map}
-use Rattle.std.specs.Prelude.{slice_index, slice_get, if◌then◌else◌}
+use Rattle.std.specs.Prelude.{slice_index, if◌then◌else◌}
 use Rattle.porch_types.specs.declared.shapes.Ty.{Ty}
 use Rattle.porch_types.specs.Leaves.{IsTypes, leaf_count, leaf_counts, leaf_counts_from, leaves_of}
 use Rattle.porch_types.specs.declared.parts.Row.{Row}
@@ -33,17 +33,19 @@ few_leaves types ty are =
 -- where an element of a row begins, and where the row ends
 pub near_row : (types : List Ty) (root count place pointee : ℕ) (row : Row) → IsTypes types → count < 2 ^ 32
     → IsRowAt types root count place pointee row
-    → row.first + row.len * leaves_of types pointee ≤ count * leaves_of types root
+    → row.first + row.len * leaves_of types pointee ≤ count * leaves_of types root → 0 < leaves_of types pointee
     → IsNear types pointee place row
-near_row types root count place pointee row are few at inside =
+near_row types root count place pointee row are few at inside some =
     let leaves = leaves_of types pointee in
     let k = at.element.0 in
     let before : k * leaves ≤ row.len * leaves = mul-le-mul_right {m = k} {n = row.len} leaves (omega (arith, at.element.1)) in
     let all : count * leaves_of types root ≤ 2 ^ 32 * 1048576 =
     mul-le-mul {n₁ = count} {m₁ = leaves_of types root} {n₂ = 2 ^ 32} {m₂ = 1048576} (omega (arith, few)) (few_leaves types root are) in
+    let long : row.len ≤ row.len * leaves = le-mul_of_pos_right {m = leaves} row.len some in
     record {
       small = omega (arith, at.element.2, before, inside, all);
       begun = omega (arith, at.element.2);
+      short = omega (arith, long, inside, all);
       ended = omega (arith, inside, all);
     }
 
@@ -89,15 +91,15 @@ held P row true true false has = tt
 held P row true false d has = tt
 held P row false c d has = tt
 
-pub near_unknown : (types : List Ty) (root count place pointee : ℕ) → length types ≤ root
+pub near_unknown : (types : List Ty) (root count place pointee : ℕ) → length types ≤ root → count < 2 ^ 32
     → IfSome (row_without_type root count place pointee) (λ row. IsNear types pointee place row)
-near_unknown types root count place pointee out =
+near_unknown types root count place pointee out few =
     held (λ row. IsNear types pointee place row) (record { first = 0; len = count }) (nat_lt 0 count) (nat_eq root pointee) (nat_eq place 0)
     (λ same at.
     let is : root ≡ pointee = eqb-true root pointee same in
     let zero : place ≡ 0 = eqb-true place 0 at in
     let none : leaves_of types pointee ≡ 0 = no_leaves types pointee (omega (arith, out, is)) in
-    record { small = omega (arith, zero); begun = omega arith; ended = rw none (omega arith) })
+    record { small = omega (arith, zero); begun = omega arith; short = omega (arith, few); ended = rw none (omega arith) })
 
 pub some_still : (P Q : Row → Type 0) (o : Option Row) → ((row : Row) → P row → Q row) → IfSome o P → IfSome o Q
 some_still P Q None keeps has = tt

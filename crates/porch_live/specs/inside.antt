@@ -2,3 +2,7 @@
 pub mod Entries
 pub mod Freeing
 pub mod Rows
+pub mod Positions
+pub mod Edits
+pub mod Places
+pub mod Texts

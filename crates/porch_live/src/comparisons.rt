@@ -108,7 +108,8 @@ fn is_next(types: &Types, pointee: u32, home: Home, leaf: u64, other: Home, end:
     same_home(home, other) && is_sum(leaf, end, leaves_of(types, pointee))
 }
 
-fn same_place(home: Home, leaf: u64, other: Home, there: u64) -> bool
+/// Whether two names are of one object, and two leaves the same.
+pub(crate) fn same_place(home: Home, leaf: u64, other: Home, there: u64) -> bool
     ensures { (types : List Ty) (pointee : ℕ) → result
         ≡ (same_home types pointee (home_of home) (home_of other) && leaf == there) }
 {
@@ -125,7 +126,7 @@ fn is_sum(whole: u64, a: u64, b: u64) -> bool
 }
 
 /// Whether two names are of one object.
-pub(crate) fn same_home(a: Home, b: Home) -> bool
+fn same_home(a: Home, b: Home) -> bool
     ensures { (types : List Ty) (pointee : ℕ) → result
         ≡ same_home types pointee (home_of a) (home_of b) }
 {

@@ -3,12 +3,12 @@ ghost use Rattle.std.specs.Prelude.{◌≡◌, ℕ, ◌++◌, ◌∷◌, [], IfS
 ghost use Rattle.std.specs.Option.{option_map};
 ghost use Rattle.porch_objects.specs.Store.{variables_in, changed_calls, innermost_in, callers_in};
 ghost use Rattle.porch_objects.specs.Pointers.{without_block};
-ghost use Rattle.porch_live.specs.Views.{value_of};
-ghost use Rattle.porch_live.specs.inside.Entries.{IsRising, IsBelow, StandsAt, HasNone, with_leaf, stacked, blocks_of, ended, is_live};
+ghost use Rattle.porch_live.specs.inside.Edits.{edited};
+ghost use Rattle.porch_live.specs.inside.Entries.{IsRising, IsBelow, StandsAt, HasNone, stacked, blocks_of, ended, is_live};
 
+use crate::edit::Edit;
 use crate::entry::Entry;
 use crate::object::Object;
-use crate::value::Value;
 use std::alloc::AllocError;
 
 /// The object of an entry.
@@ -23,21 +23,15 @@ pub(crate) fn object_in(entries: &[Entry], number: u64, index: usize) -> Option<
     }
 }
 
-/// Gives a leaf of an object of an entry a value, where it is there.
-pub(crate) fn set_leaf_in(
-    entries: &mut Vec<Entry>,
-    number: u64,
-    index: usize,
-    leaf: u64,
-    value: Value,
-)
+/// Changes an object of an entry, where it is there.
+pub(crate) fn edit_in(entries: &mut Vec<Entry>, number: u64, index: usize, edit: &Edit)
     requires { IsRising 0 entries.old.items }
     ensures { entries.new.items
-        ≡ changed_calls (with_leaf leaf (value_of value)) entries.old.items number index }
+        ≡ changed_calls (edited edit.now) entries.old.items number index }
 {
     if let Some(at) = index_of(entries, number) {
         let entry = &mut entries[at];
-        entry.set_leaf(index, leaf, value);
+        entry.edit(index, edit);
     }
 }
 

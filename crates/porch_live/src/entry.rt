@@ -2,11 +2,11 @@
 ghost use Rattle.std.specs.Prelude.{◌≡◌, [], slice_get};
 ghost use Rattle.std.specs.Option.{option_map};
 ghost use Rattle.porch_objects.specs.Store.{changed_at};
-ghost use Rattle.porch_live.specs.Views.{value_of};
-ghost use Rattle.porch_live.specs.inside.Entries.{is_live, with_leaf, with_variables};
+ghost use Rattle.porch_live.specs.inside.Entries.{is_live, with_variables};
+ghost use Rattle.porch_live.specs.inside.Edits.{edited};
 
-use crate::object::{Object, set_leaf_of};
-use crate::value::Value;
+use crate::edit::Edit;
+use crate::object::{Object, edit_one};
 use std::marker::Model;
 
 /// The objects of a call or of an allocation. Contracts see it as a call with its variables.
@@ -43,12 +43,12 @@ impl Entry {
         self.objects.get(index)
     }
 
-    /// Gives a leaf of an object a value, where it is there.
-    pub(crate) fn set_leaf(&mut self, index: usize, leaf: u64, value: Value)
-        ensures { self.new ≡ with_variables self.old (changed_at (with_leaf leaf (value_of value))
+    /// Changes an object, where it is there.
+    pub(crate) fn edit(&mut self, index: usize, edit: &Edit)
+        ensures { self.new ≡ with_variables self.old (changed_at (edited edit.now)
             self.old.variables (slice_get self.old.variables index) index) }
     {
-        set_leaf_of(&mut self.objects, index, leaf, value);
+        edit_one(&mut self.objects, index, edit);
     }
 
     /// Whether it has an object.

@@ -6,12 +6,16 @@
 #![tactic(auto)]
 
 mod comparisons;
+mod edit;
 mod entries;
 mod entry;
 mod object;
+mod places;
 mod pointers;
+mod positions;
 mod roots;
 mod store;
+mod texts;
 mod value;
 
 pub use object::{Object, Root};

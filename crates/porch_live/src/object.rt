@@ -1,10 +1,11 @@
 //! Objects, each a root with the values of its leaves.
-ghost use Rattle.std.specs.Prelude.{◌≡◌, ◌∷◌, [], length, slice_get, slice_set, slice_index_or, IfOk};
+ghost use Rattle.std.specs.Prelude.{◌≡◌, ◌+◌, ◌≤◌, ◌∷◌, [], nat_le, take, drop, length, map, slice_get, slice_set, slice_index_or, IfOk};
 ghost use Rattle.porch_objects.specs.Store.{indeterminate, with_leaves, changed_at, fresh, zeroed};
 ghost use Rattle.porch_objects.specs.Pointers.{block_of};
 ghost use Rattle.porch_live.specs.Views.{value_of, root_of};
-ghost use Rattle.porch_live.specs.inside.Entries.{with_leaf};
+ghost use Rattle.porch_live.specs.inside.Edits.{edited, spliced_in, with_part};
 
+use crate::edit::Edit;
 use crate::roots::{leaves_in, zero_of};
 use crate::value::Value;
 use porch_types::Types;
@@ -93,16 +94,81 @@ impl Object {
             self.leaves[at] = value;
         }
     }
+
+    pub(crate) fn edit(&mut self, edit: &Edit)
+        ensures { self.new ≡ edited edit.now self.old }
+    {
+        match edit {
+            Edit::Leaf { leaf, value } => self.set_leaf(*leaf, *value),
+            Edit::Part { at, values } => self.set_part(*at as usize, values),
+        }
+    }
+
+    /// So many leaves from one on, or as many as there are.
+    pub(crate) fn leaves_from(
+        &self,
+        alloc: Global,
+        leaf: u64,
+        count: u64,
+    ) -> Result<Vec<Value>, AllocError>
+        ensures { IfOk result (λ values. map value_of values.items
+            ≡ take count (drop leaf self.now.leaves)) }
+    {
+        let part = part_of(&self.leaves, leaf as usize, count as usize);
+        let values = Vec::from_slice(alloc, part)?;
+        Ok(values)
+    }
+
+    /// Whether it has so many leaves from one on.
+    pub(crate) fn has_part(&self, leaf: u64, count: usize) -> bool
+        ensures { result ≡ nat_le (leaf + count) (length self.now.leaves) }
+    {
+        let at = leaf as usize;
+        if at > self.leaves.len() {
+            return false;
+        }
+        count <= self.leaves.len() - at
+    }
+
+    /// Leaves from one on become others, where the object has all of them.
+    fn set_part(&mut self, at: usize, values: &[Value])
+        ensures { self.new ≡ with_part at (map value_of values.now) self.old }
+    {
+        if at <= self.leaves.len() && values.len() <= self.leaves.len() - at {
+            put_part(&mut self.leaves, at, values);
+        }
+    }
 }
 
-/// Gives a leaf of one of these objects a value, where it is there.
-pub(crate) fn set_leaf_of(objects: &mut [Object], index: usize, leaf: u64, value: Value)
-    ensures { objects.new ≡ changed_at (with_leaf leaf (value_of value)) objects.old
+fn part_of(values: &[Value], at: usize, count: usize) -> &[Value]
+    ensures { result.now ≡ take count (drop at values.now) }
+{
+    if at > values.len() {
+        return &values[values.len()..];
+    }
+    let rest = &values[at..];
+    if count < rest.len() {
+        return &rest[..count];
+    }
+    rest
+}
+
+fn put_part(leaves: &mut [Value], at: usize, values: &[Value])
+    requires { at + length values.now ≤ length leaves.old }
+    ensures value { leaves.new ≡ spliced_in leaves.old at values.now }
+    ensures len { length leaves.new ≡ length leaves.old }
+{
+    leaves[at..at + values.len()].copy_from_slice(values);
+}
+
+/// Changes one of these objects, where it is there.
+pub(crate) fn edit_one(objects: &mut [Object], index: usize, edit: &Edit)
+    ensures { objects.new ≡ changed_at (edited edit.now) objects.old
         (slice_get objects.old index) index }
 {
     if index < objects.len() {
         let object = &mut objects[index];
-        object.set_leaf(leaf, value);
+        object.edit(edit);
     }
 }
 

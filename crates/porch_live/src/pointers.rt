@@ -1,15 +1,19 @@
 //! What is done through pointers and with them.
-ghost use Rattle.std.specs.Prelude.{◌≡◌, IfOk, OnErr};
-ghost use Rattle.porch_objects.specs.Pointers.{load, store, member, equality};
-ghost use Rattle.porch_live.specs.Views.{value_of};
+ghost use Rattle.std.specs.Prelude.{◌≡◌, map, IfOk, OnErr};
+ghost use Rattle.porch_objects.specs.Pointers.{load, store, member, equality, copy, leaves_from};
+ghost use Rattle.porch_objects.specs.Store.{object_at};
+ghost use Rattle.porch_live.specs.Views.{home_of, value_of};
 ghost use Rattle.porch_live.specs.Answers.{after, value_in};
+ghost use Rattle.porch_live.specs.inside.Edits.{has_part};
 
 use crate::comparisons::equal;
+use crate::edit::Edit;
+use crate::places::find_places;
 use crate::store::Store;
-use crate::value::{Value, access_after, determined};
+use crate::value::{Home, Value, access_after, determined};
 use porch_types::Types;
 use porch_values::Act;
-use std::alloc::AllocError;
+use std::alloc::{AllocError, Global};
 
 impl Store {
     /// The value of the leaf that a pointer names.
@@ -90,6 +94,62 @@ impl Store {
                 Err(act) => Err(act),
             },
             Err(act) => Err(act),
+        }
+    }
+
+    /// So many leaves are copied as they are, also those that are indeterminate. `alloc` is the
+    /// allocator. Answers `AllocError` also where the object that is written has fewer leaves from
+    /// there on than are copied. Where it answers an act or an error, nothing changes.
+    pub fn copy(
+        &mut self,
+        alloc: Global,
+        count: u64,
+        to: Value,
+        from: Value,
+    ) -> Result<Result<(), Act>, AllocError>
+        ensures copied { IfOk result (λ answer. after answer self.new
+            ≡ copy count self.old (value_of to) (value_of from)) }
+        ensures refused { IfOk result (λ answer. OnErr answer (self.new ≡ self.old)) }
+        ensures same { OnErr result (self.new ≡ self.old) }
+    {
+        match find_places(self.seen(to), self.seen(from)) {
+            Ok(places) => {
+                let values = self.leaves_from(alloc, places.other, places.first, count)?;
+                if !self.has_part(places.home, places.leaf, values.len()) {
+                    return Err(AllocError);
+                }
+                let at = places.leaf;
+                self.edit(places.home, &Edit::Part { at, values });
+                Ok(Ok(()))
+            }
+            Err(act) => Ok(Err(act)),
+        }
+    }
+
+    /// So many leaves of an object from one on, or as many as it has.
+    fn leaves_from(
+        &self,
+        alloc: Global,
+        home: Home,
+        leaf: u64,
+        count: u64,
+    ) -> Result<Vec<Value>, AllocError>
+        ensures { IfOk result (λ values. map value_of values.items
+            ≡ leaves_from (object_at self.now (home_of home)) leaf count) }
+    {
+        match self.object(home) {
+            Some(object) => object.leaves_from(alloc, leaf, count),
+            None => Ok(Vec::new(alloc)),
+        }
+    }
+
+    /// Whether an object has so many leaves from one on.
+    fn has_part(&self, home: Home, leaf: u64, count: usize) -> bool
+        ensures { result ≡ has_part (object_at self.now (home_of home)) leaf count }
+    {
+        match self.object(home) {
+            Some(object) => object.has_part(leaf, count),
+            None => false,
         }
     }
 }

@@ -8,7 +8,7 @@ ghost use Rattle.porch_live.specs.inside.Rows.{IsNear, row_without_type};
 
 use crate::object::Root;
 use crate::value::Value;
-use porch_types::{Row, Ty, Types, rows_lie_inside};
+use porch_types::{Row, Ty, Types, leaves_add_up, rows_lie_inside};
 
 /// The leaves of a type; none of one that isn't there.
 pub(crate) fn leaves_of(types: &Types, ty: u32) -> u64
@@ -51,6 +51,7 @@ pub(crate) fn row_of(types: &Types, root: Root, place: u64, pointee: u32) -> Opt
 {
     if (root.ty as usize) < types.len() {
         rows_lie_inside();
+        leaves_add_up();
         types.row_of(root.ty, u64::from(root.count), place, pointee)
     } else {
         row_without_type(root, place, pointee)

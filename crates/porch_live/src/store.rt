@@ -1,14 +1,16 @@
 //! The store: what lives, and how calls, allocations and checkpoints are counted.
 ghost use Rattle.std.specs.Prelude.{◌≡◌, is_some, IfOk, OnOk, OnErr};
 ghost use Rattle.std.specs.Option.{option_map};
-ghost use Rattle.porch_objects.specs.Store.{store_of, object_at, seen, leaf_at, with_leaf_at, innermost, entered, left, reached_one, with_blocks};
+ghost use Rattle.porch_objects.specs.Store.{store_of, object_at, seen, leaf_at, changed, with_leaf_at, innermost, entered, left, reached_one, with_blocks};
 ghost use Rattle.porch_objects.specs.Pointers.{allocate, release, without_block};
+ghost use Rattle.porch_live.specs.inside.Edits.{edited};
 ghost use Rattle.porch_live.specs.Answers.{after, allocation_of};
 ghost use Rattle.porch_live.specs.Views.{home_of, value_of};
 
-use crate::entries::{end_block, last_number, object_in, push, remove_last, set_leaf_in};
+use crate::edit::Edit;
+use crate::entries::{edit_in, end_block, last_number, object_in, push, remove_last};
 use crate::entry::Entry;
-use crate::object::{Object, Root, new_object, one_object, set_leaf_of};
+use crate::object::{Object, Root, edit_one, new_object, one_object};
 use crate::value::{Home, Value, block_to_free, count_of, if_good, is_good};
 use porch_types::Types;
 use porch_values::Act;
@@ -115,12 +117,19 @@ impl Store {
     pub fn set_leaf(&mut self, home: Home, leaf: u64, value: Value)
         ensures { self.new ≡ with_leaf_at self.old (home_of home) leaf (value_of value) }
     {
+        self.edit(home, &Edit::Leaf { leaf, value });
+    }
+
+    /// Changes an object, where it lives.
+    pub(crate) fn edit(&mut self, home: Home, edit: &Edit)
+        ensures { self.new ≡ changed (edited edit.now) self.old (home_of home) }
+    {
         match home {
-            Home::Global(global) => set_leaf_of(&mut self.globals, global as usize, leaf, value),
+            Home::Global(global) => edit_one(&mut self.globals, global as usize, edit),
             Home::Call { call, variable } => {
-                set_leaf_in(&mut self.calls, call, variable as usize, leaf, value)
+                edit_in(&mut self.calls, call, variable as usize, edit)
             }
-            Home::Block(block) => set_leaf_in(&mut self.blocks, block, 0, leaf, value),
+            Home::Block(block) => edit_in(&mut self.blocks, block, 0, edit),
         }
     }
 
@@ -206,6 +215,13 @@ impl Store {
         ensures { self.new ≡ with_blocks self.old (without_block self.old.blocks block) }
     {
         self.freed = end_block(&mut self.blocks, block, self.freed);
+    }
+
+    /// How many calls of checkpoint() were reached.
+    pub fn checkpoints(&self) -> u64
+        ensures { result ≡ self.now.checkpoints }
+    {
+        self.checkpoints
     }
 
     /// One more checkpoint() was reached.

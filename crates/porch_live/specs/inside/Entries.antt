@@ -1,10 +1,6 @@
 -- Calls and allocations as one list, by rising number.
-use Rattle.std.specs.Prelude.{◌≡◌, ◌≢◌, ℕ, ◌+◌, ◌<◌, ◌≤◌, List, [], ◌∷◌, slice_get, slice_set, length, Bool, not, nat_eq, if◌then◌else◌, Some}
-use Rattle.porch_objects.specs.Store.{Value, Object, Activation, HeapObject, Store, with_leaves}
-
--- an object in which a leaf has become a value
-abbrev pub with_leaf : ℕ → Value → Object → Object
-with_leaf leaf v object = with_leaves object (slice_set object.leaves leaf v)
+use Rattle.std.specs.Prelude.{◌≡◌, ◌≢◌, ℕ, ◌+◌, ◌<◌, ◌≤◌, List, [], ◌∷◌, slice_get, length, Bool, not, nat_eq, if◌then◌else◌, Some}
+use Rattle.porch_objects.specs.Store.{Object, Activation, HeapObject, Store}
 
 abbrev pub with_variables : Activation → List Object → Activation
 with_variables entry variables = record { number = entry.number; variables = variables }

@@ -8,6 +8,7 @@ use Rattle.porch_types.specs.Leaves.{leaves_of}
 pub record IsNear (types : List Ty) (pointee place : ℕ) (row : Row) : Type 0 where
   pub small : place ≤ 2 ^ 52
   pub begun : row.first ≤ place
+  pub short : row.len ≤ 2 ^ 52
   pub ended : row.first + row.len * leaves_of types pointee ≤ 2 ^ 52
 
 -- the row at a place of a root whose type isn't there: it has elements, but no leaf

@@ -1,4 +1,4 @@
-use Rattle.std.proofs.Common.{ℕ, ◌+◌, nat_eq, sym, ap, ◌∙◌}
+use Rattle.std.proofs.Common.{◌+◌, nat_eq, sym, ap, ◌∙◌}
 use Rattle.porch_live.proofs.comparisons.is_next.Goals as goal
 
 pub returns-then-same_home : goal.returns-then-same_home

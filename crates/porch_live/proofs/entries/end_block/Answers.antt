@@ -1,6 +1,5 @@
-use Rattle.std.proofs.Common.{◌≡◌, List, ap, sym, subst, ◌∙◌}
-use Rattle.porch_objects.specs.Store.{Activation}
-use Rattle.porch_live.specs.inside.Entries.{IsRising, IsBelow, blocks_of, ended, is_live}
+use Rattle.std.proofs.Common.{ap, ◌∙◌}
+use Rattle.porch_live.specs.inside.Entries.{blocks_of, is_live}
 use Rattle.porch_live.proofs.Ended.{ended_without, rising_end, below_end, live_blocks, rising_filter, below_filter}
 use Rattle.porch_live.proofs.entries.end_block.Goals as goal
 

@@ -1,5 +1,4 @@
-use Rattle.std.proofs.Common.{◌≡◌, ℕ, ◌+◌, ◌-◌, ◌/◌, ◌<◌, ◌≤◌, Some, slice_get, length, arith, ap}
-use Rattle.porch_objects.specs.Store.{Activation}
+use Rattle.std.proofs.Common.{arith}
 use Rattle.porch_live.proofs.Rising.{before_smaller, after_greater}
 use Rattle.porch_live.proofs.entries.index_of.Goals as goal
 

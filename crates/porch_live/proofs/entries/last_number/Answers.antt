@@ -1,4 +1,4 @@
-use Rattle.std.proofs.Common.{◌≡◌, ◌+◌, ◌-◌, ◌<◌, length, Some, slice_get, arith, ◌∙◌, sym}
+use Rattle.std.proofs.Common.{◌≡◌, ◌-◌, ◌<◌, length, Some, slice_get, arith, ◌∙◌, sym}
 use Rattle.std.proofs.lemmas.Option.{slice_get_within}
 use Rattle.porch_live.proofs.Stacked.{number_of_last}
 use Rattle.porch_live.proofs.entries.last_number.Goals as goal

@@ -1,6 +1,5 @@
-use Rattle.std.proofs.Common.{◌≡◌, ◌∙◌, ◌++◌, List, Some, None, length, sym, ap, subst, MatchOption}
+use Rattle.std.proofs.Common.{◌∙◌, sym, subst}
 use Rattle.std.specs.Option.{option_to_list}
-use Rattle.porch_objects.specs.Store.{Activation}
 use Rattle.porch_live.specs.inside.Entries.{IsRising, IsBelow}
 use Rattle.porch_live.proofs.Stacked.{stacked_front, rising_front, below_front}
 use Rattle.porch_live.proofs.entries.remove_last.Goals as goal

@@ -1,5 +1,4 @@
 use Rattle.std.proofs.Common.{List, sym, ap, ◌∙◌, slice_get}
-use Rattle.std.specs.Option.{option_map}
 use Rattle.porch_objects.specs.Store.{Object, variables_in}
 use Rattle.porch_live.proofs.Stacked.{stacked_variables}
 use Rattle.porch_live.proofs.Blocks.{block_of_entry}

@@ -1,23 +1,23 @@
 use Rattle.std.proofs.Common.{List, sym, ap, ◌∙◌, subst}
 use Rattle.std.specs.Prelude.{slice_set}
 use Rattle.porch_objects.specs.Store.{Activation}
-use Rattle.porch_live.specs.Views.{value_of}
-use Rattle.porch_live.specs.inside.Entries.{StandsAt, HasNone, with_leaf}
-use Rattle.porch_live.proofs.Found.{changed_entry, change_there, no_change}
-use Rattle.porch_live.proofs.entries.set_leaf_in.Goals as goal
+use Rattle.porch_live.specs.inside.Edits.{edited}
+use Rattle.porch_live.specs.inside.Entries.{StandsAt, HasNone}
+use Rattle.porch_live.proofs.Found.{change_there, no_change}
+use Rattle.porch_live.proofs.entries.edit_in.Goals as goal
 
 pub returns-in-Some : goal.returns-in-Some
 returns-in-Some c =
-    let change = with_leaf c.args.leaf (value_of c.args.value) in
+    let change = edited c.args.edit.now in
     let es = c.args.entries.now.items in
     let found = c.index_mut-entry.result.now in
     let stands : StandsAt es c.args.number c.in-Some.at =
     subst (λ (xs : List Activation). StandsAt xs c.args.number c.in-Some.at) c.deref.ensures.value c.in-Some.ensures.some in
-    ap (λ (a : Activation). slice_set es c.in-Some.at a) c.set_leaf.ensures
+    ap (λ (a : Activation). slice_set es c.in-Some.at a) c.edit.ensures
     ∙ sym (change_there change c.args.index es c.args.number c.in-Some.at found c.requires stands c.index_mut-entry.ensures.value)
 
 pub returns-in_default : goal.returns-in_default
 returns-in_default c =
     let es = c.args.entries.now.items in
     let none : HasNone es c.args.number = subst (λ (xs : List Activation). HasNone xs c.args.number) c.deref.ensures.value c.in_default.ensures.none in
-    sym (no_change (with_leaf c.args.leaf (value_of c.args.value)) es c.args.number c.args.index none)
+    sym (no_change (edited c.args.edit.now) es c.args.number c.args.index none)

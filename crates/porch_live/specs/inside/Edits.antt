@@ -1,0 +1,26 @@
+-- Changes of objects.
+use Rattle.std.specs.Prelude.{ℕ, ◌+◌, Bool, false, Option, Some, None, nat_le, if◌then◌else◌, List, ◌++◌, take, drop, length, map, slice_set}
+use Rattle.porch_objects.specs.Store.{Value, Object, with_leaves}
+use Rattle.porch_objects.specs.Pointers.{spliced}
+use Rattle.porch_live.specs.declared.value.Value as code
+use Rattle.porch_live.specs.declared.edit.Edit.{Edit}
+use Rattle.porch_live.specs.declared.edit.Edit.TheVariants.{Leaf, Part}
+use Rattle.porch_live.specs.Views.{value_of}
+
+-- leaves from one on become others, where the object has all of them
+abbrev pub with_part : ℕ → List Value → Object → Object
+with_part at values object =
+    if nat_le (at + length values) (length object.leaves) then with_leaves object (spliced object.leaves at values) else object
+
+-- whether an object has so many leaves from one on
+abbrev pub has_part : Option Object → ℕ → ℕ → Bool
+has_part None leaf count = false
+has_part (Some object) leaf count = nat_le (leaf + count) (length object.leaves)
+
+-- a list with other values from an index on
+abbrev pub spliced_in : List code.Value → ℕ → List code.Value → List code.Value
+spliced_in values at new = take at values ++ (new ++ drop (at + length new) values)
+
+abbrev pub edited : Edit → Object → Object
+edited (Leaf leaf value) object = with_leaves object (slice_set object.leaves leaf (value_of value))
+edited (Part at values) object = with_part at (map value_of values.items) object
