@@ -9,7 +9,7 @@ ghost use Rattle.porch_abstract.specs.Machine.{Frame, State, determined, counted
 ghost use Rattle.porch_abstract.specs.whole.Machine.{becomes, onward, shows, text_of, going_to, if_ok, int_of};
 ghost use Rattle.porch_live.specs.Answers.{value_in};
 ghost use Rattle.porch_live.specs.Views.{value_of};
-ghost use Rattle.porch_steps.specs.inside.Effects.{effected, whole_of};
+ghost use Rattle.porch_steps.specs.inside.Effects.{effected};
 
 use porch_flat::whole::Display;
 use porch_live::Value;
@@ -22,8 +22,8 @@ pub(crate) enum Effect {
     On,
     /// A variable becomes a value.
     Become(u32, Value),
-    /// A number is shown, and a variable becomes the number of bytes.
-    Show(Display, u32, i128),
+    /// A value that is a number is shown, and a variable becomes the number of bytes.
+    Show(Display, u32, Value),
     /// Goes on at a place.
     Go(usize),
     /// Counts a turn.
@@ -74,23 +74,6 @@ pub(crate) fn give_determined(value: Value) -> Effect
     }
 }
 
-/// A number that is there.
-pub(crate) fn number_of(value: Value) -> Option<i128>
-    ensures { result ≡ whole_of (value_of value) }
-{
-    match value {
-        Value::Number(number) => Some(number),
-        Value::Null => None,
-        Value::Pointer { home: _, leaf: _ } => None,
-        Value::Past {
-            home: _,
-            leaf: _,
-            until: _,
-        } => None,
-        Value::Indeterminate => None,
-    }
-}
-
 /// A number is shown.
 pub(crate) fn show_counted(how: Display, variable: u32, value: Value) -> Effect
     ensures { (flat : Flat) (under : Environment) (frame : Frame) (callers : List Frame) (s : State)
@@ -98,7 +81,7 @@ pub(crate) fn show_counted(how: Display, variable: u32, value: Value) -> Effect
         ≡ counted (value_of value) (λ z. shows flat under frame callers variable s (text_of how z)) }
 {
     match value {
-        Value::Number(number) => Effect::Show(how, variable, number),
+        Value::Number(_) => Effect::Show(how, variable, value),
         Value::Null => Effect::Meet(Act::Indeterminate),
         Value::Pointer { home: _, leaf: _ } => Effect::Meet(Act::Indeterminate),
         Value::Past {
@@ -169,6 +152,18 @@ pub(crate) fn become_truth(variable: u32, answer: Result<bool, Act>) -> Effect
     match answer {
         Ok(true) => Effect::Become(variable, Value::Number(1)),
         Ok(false) => Effect::Become(variable, Value::Number(0)),
+        Err(act) => Effect::Meet(act),
+    }
+}
+
+/// A variable becomes a number, or there is an act.
+pub(crate) fn become_number(variable: u32, answer: Result<i128, Act>) -> Effect
+    ensures { (flat : Flat) (under : Environment) (frame : Frame) (callers : List Frame) (s : State)
+        → effected flat under frame callers result s
+        ≡ if_ok answer (λ z. becomes flat under frame callers variable s (number z)) }
+{
+    match answer {
+        Ok(value) => Effect::Become(variable, Value::Number(value)),
         Err(act) => Effect::Meet(act),
     }
 }

@@ -7,4 +7,6 @@
 mod compute;
 mod effect;
 mod frame;
+mod pointers;
 mod run;
+mod take;
