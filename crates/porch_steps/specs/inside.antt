@@ -3,3 +3,5 @@
 pub mod Kept
 -- What a command leads to, before it is done.
 pub mod Effects
+-- Arguments, variables and frames of calls.
+pub mod Calls

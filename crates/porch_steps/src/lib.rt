@@ -4,9 +4,11 @@
 //! `compute.rt` computes it.
 #![tactic(auto)]
 
+mod calls;
 mod compute;
 mod effect;
 mod frame;
+mod heap;
 mod pointers;
 mod run;
 mod take;
