@@ -69,7 +69,7 @@ fn params_of(flat: &Flat, function: usize) -> &[u32]
 }
 
 // The types of a function's variables.
-fn vars_of(flat: &Flat, function: usize) -> &[u32]
+pub(crate) fn vars_of(flat: &Flat, function: usize) -> &[u32]
     ensures { result.now ≡ vars_of (slice_get flat.now.functions function) }
 {
     match flat.functions.get(function) {
@@ -134,7 +134,7 @@ fn push_variable(variables: &mut Vec<Object>, variable: Object) -> Result<(), Al
 }
 
 // The variables of a call: the first have the arguments.
-fn new_variables(
+pub(crate) fn new_variables(
     alloc: Global,
     types: &Types,
     vars: &[u32],

@@ -11,4 +11,5 @@ mod frame;
 mod heap;
 mod pointers;
 mod run;
+mod step;
 mod take;

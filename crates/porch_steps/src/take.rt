@@ -235,7 +235,8 @@ impl Run {
         Ok(AStep::Went)
     }
 
-    fn give_back(&mut self, value: Value) -> Result<AStep, AllocError>
+    /// The frame ends with a value.
+    pub(crate) fn give_back(&mut self, value: Value) -> Result<AStep, AllocError>
         requires running { self.old.phase ≡ Phase.Running }
         ensures led { Led self.old self.new (Effect.Give value) result }
     {
