@@ -5,3 +5,5 @@ pub mod Kept
 pub mod Effects
 -- Arguments, variables and frames of calls.
 pub mod Calls
+-- The labels of a program's functions, one by one.
+pub mod Beginning

@@ -100,7 +100,10 @@ impl Run {
             (state_of self.old) (state_of self.new) result }
     {
         let pointee = pointee_of_variable(flat, self, to);
-        match self.store.allocate(alloc, &flat.types, pointee, zeros, count) {
+        match self
+            .store
+            .allocate(alloc, &flat.types, pointee, zeros, count)
+        {
             Ok(Ok(address)) => {
                 put(&mut self.store, to, address);
                 self.frame.next += 1;

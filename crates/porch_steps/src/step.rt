@@ -140,7 +140,12 @@ impl Run {
     }
 
     /// The first step, the call of `main`.
-    pub(crate) fn start(&mut self, alloc: Global, flat: &Flat, widths: Widths) -> Result<AStep, AllocError>
+    pub(crate) fn start(
+        &mut self,
+        alloc: Global,
+        flat: &Flat,
+        widths: Widths,
+    ) -> Result<AStep, AllocError>
         requires begun { self.old.phase ≡ Phase.Begun }
         ensures steps { Answers (next flat.now (without_input widths) (state_of self.old))
             (state_of self.old) (state_of self.new) result }

@@ -226,11 +226,7 @@ impl Run {
             (state_of self.old) (state_of self.new) result }
     {
         self.output.extend_from_slice(text)?;
-        put(
-            &mut self.store,
-            variable,
-            Value::Number(text.len() as i128),
-        );
+        put(&mut self.store, variable, Value::Number(text.len() as i128));
         self.frame.next += 1;
         Ok(AStep::Went)
     }

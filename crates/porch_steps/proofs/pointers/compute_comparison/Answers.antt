@@ -1,4 +1,4 @@
-use Rattle.std.proofs.Common.{ap, ◌∙◌, refl}
+use Rattle.std.proofs.Common.{ap, ◌∙◌}
 use Rattle.porch_flat.specs.whole.Places.{type_at}
 use Rattle.porch_abstract.specs.whole.Machine.{if_ok, becomes, int_of}
 use Rattle.porch_live.specs.Views.{value_of}
