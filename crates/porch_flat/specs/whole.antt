@@ -1,5 +1,7 @@
 -- what a command is, whatever its name
 pub mod Form
+-- the forms that code has in hand
+pub mod Views
 -- what stands in each line of a text
 pub mod Lines
 -- types of variables, leaves and operands' places

@@ -19,10 +19,14 @@ mod walk;
 
 use crate::flat::{GlobalObject, Operand};
 pub use calls::{reaching, reaching_is_least};
+pub use form::{Form, Within, form_of_command};
+pub use labels::Labels;
 pub use laws::{the_first_broken_rule_is_one, the_search_finds_the_first};
 use porch_types::Types;
 use sqlite_items::Items;
+pub use types::{compared_type, pointee_of_var, type_at, type_of_var};
 pub use valid::{Plain, Valid, ValidFault};
+pub use walk::main_number;
 
 /// How two operands compare.
 #[derive(Clone, Copy, Debug, PartialEq, Eq)]

@@ -24,5 +24,6 @@ mod texts;
 mod value;
 
 pub use object::{Object, Root};
+pub use roots::leaves_of;
 pub use store::Store;
 pub use value::{Home, Value};

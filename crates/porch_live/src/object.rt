@@ -59,6 +59,15 @@ impl Object {
         Ok(Object { root, leaves })
     }
 
+    /// An object of one leaf, with its value.
+    pub fn single(alloc: Global, root: Root, value: Value) -> Result<Object, AllocError>
+        ensures { IfOk result (λ object. object
+            ≡ record { root = root_of root; leaves = value_of value ∷ [] }) }
+    {
+        let leaves = Vec::from_slice(alloc, &[value])?;
+        Ok(Object { root, leaves })
+    }
+
     /// The root.
     pub fn root(&self) -> Root
         ensures { root_of result ≡ self.now.root }

@@ -11,7 +11,7 @@ use crate::value::Value;
 use porch_types::{Row, Ty, Types, leaves_add_up, rows_lie_inside};
 
 /// The leaves of a type; none of one that isn't there.
-pub(crate) fn leaves_of(types: &Types, ty: u32) -> u64
+pub fn leaves_of(types: &Types, ty: u32) -> u64
     ensures value { result ≡ leaves_of types.now ty }
     ensures known { 0 < result → ty < length types.now }
     ensures few { result ≤ 1_048_576 }

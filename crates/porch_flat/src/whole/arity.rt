@@ -4,7 +4,7 @@ ghost use Rattle.std.specs.Prelude.{◌≡◌, ◌&&◌, ◌==◌, length, slice
 ghost use Rattle.std.specs.List.{list_all};
 ghost use Rattle.porch_flat.specs.whole.Places.{argument_places, params_of, result_of};
 ghost use Rattle.porch_flat.specs.whole.Rules.{fits, gives_result, has_arity, takes_result};
-ghost use Rattle.porch_flat.specs.inside.Forms.{view_of};
+ghost use Rattle.porch_flat.specs.whole.Views.{view_of};
 
 use crate::flat::Operand;
 use crate::whole::arguments::{fit_parameters, fits, params};

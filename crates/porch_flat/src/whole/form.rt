@@ -2,7 +2,7 @@
 
 ghost use Rattle.std.specs.Prelude.{◌≡◌};
 ghost use Rattle.porch_flat.specs.whole.Form.{form_of, is_turn, is_mode, label_of};
-ghost use Rattle.porch_flat.specs.inside.Forms.{view_of};
+ghost use Rattle.porch_flat.specs.whole.Views.{view_of};
 
 use crate::flat::Operand;
 use crate::whole::{Command, Comparison, Direction, Display};
@@ -10,7 +10,7 @@ use porch_values::Op;
 
 /// What a leaf is counted in.
 #[derive(Clone, Copy)]
-pub(crate) enum Within {
+pub enum Within {
     Variable(u32),
     Global(u32),
     Pointee(u32),
@@ -18,7 +18,7 @@ pub(crate) enum Within {
 
 /// The form of a command. Lists stay in the command.
 #[derive(Clone, Copy)]
-pub(crate) enum Form<'a> {
+pub enum Form<'a> {
     Move(u32, Operand),
     Cast(u32, u32),
     Operator(Op, u32, Operand, Operand),
@@ -49,7 +49,7 @@ pub(crate) enum Form<'a> {
 }
 
 /// The form of a command. It takes no memory.
-pub(crate) fn form_of_command(command: &Command) -> Form<'_>
+pub fn form_of_command(command: &Command) -> Form<'_>
     ensures { view_of result ≡ form_of command.now }
 {
     match command {

@@ -6,7 +6,7 @@ ghost use Rattle.porch_flat.specs.whole.Form.{form_of, is_turn, jump_of};
 ghost use Rattle.porch_flat.specs.whole.Places.{place_of_label};
 ghost use Rattle.porch_flat.specs.whole.Rewritten.{passes, same_number};
 ghost use Rattle.porch_flat.specs.whole.Rules.{leads_well, may_lead, stands_once};
-ghost use Rattle.porch_flat.specs.inside.Forms.{view_of};
+ghost use Rattle.porch_flat.specs.whole.Views.{view_of};
 
 use crate::whole::form::{Form, is_turn_command};
 use crate::whole::labels::Labels;

@@ -5,7 +5,7 @@ ghost use Rattle.std.specs.List.{list_all};
 ghost use Rattle.porch_flat.specs.whole.Places.{compared_type, own_type, place, places_of, pointee_of_var, returned_places, right_type, shown_type, type_at, type_of_var};
 ghost use Rattle.porch_flat.specs.whole.Rewritten.{same_number};
 ghost use Rattle.porch_flat.specs.whole.Rules.{are_alike, fit_kinds, fits, has_constant, has_kinds, is_pointer, is_scalar, is_struct, is_whole, is_wide};
-ghost use Rattle.porch_flat.specs.inside.Forms.{view_of};
+ghost use Rattle.porch_flat.specs.whole.Views.{view_of};
 
 use crate::flat::Operand;
 use crate::whole::arguments::{fits, has_constant, have_constants, params};

@@ -15,7 +15,7 @@ use std::marker::Model;
 /// The place of the first label of each number, in a list of commands. It is found in a time that doesn't
 /// depend on the number of commands.
 #[derive(Drop)]
-pub(crate) struct Labels {
+pub struct Labels {
     places: IndexMap<u32, usize>,
 }
 
@@ -29,7 +29,7 @@ impl Model for Labels {
 
 impl Labels {
     /// The places of the labels in a list of commands.
-    pub(crate) fn new(alloc: Global, commands: &[Command]) -> Result<Labels, AllocError>
+    pub fn new(alloc: Global, commands: &[Command]) -> Result<Labels, AllocError>
         ensures { IfOk result (λ labels. (n : ℕ)
             → place_in labels n ≡ place_of_label commands.now n) }
     {
@@ -41,7 +41,7 @@ impl Labels {
     }
 
     /// The place of the label of a number, if there is one. It takes no memory.
-    pub(crate) fn place(&self, number: u32) -> Option<usize>
+    pub fn place(&self, number: u32) -> Option<usize>
         ensures { result ≡ place_in self.now number }
     {
         self.places.get(&number).copied()

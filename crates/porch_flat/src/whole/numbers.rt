@@ -5,7 +5,7 @@ ghost use Rattle.std.specs.List.{list_all};
 ghost use Rattle.porch_flat.specs.whole.Form.{operands_of, operand_list, number_list, variable_of, variables_of, free_numbers_of};
 ghost use Rattle.porch_flat.specs.whole.Places.{type_within};
 ghost use Rattle.porch_flat.specs.whole.Rules.{has_numbers, is_leaf_of, is_number_of, names_rest, names_variable, names_whole};
-ghost use Rattle.porch_flat.specs.inside.Forms.{view_of, within_of};
+ghost use Rattle.porch_flat.specs.whole.Views.{view_of, within_of};
 
 use crate::flat::Operand;
 use crate::whole::form::{Form, Within};

@@ -9,7 +9,7 @@ ghost use Rattle.porch_flat.specs.whole.Lines.{type_line, global_line, init_line
 ghost use Rattle.porch_flat.specs.whole.Places.{global_type, place_of_label};
 ghost use Rattle.porch_flat.specs.whole.Rules.{fit_kinds, has_init_constant, has_init_kind, has_init_numbers, has_kinds, has_modes, has_result_kind, has_type, init_before, is_behind, is_leaf_of, is_type, keeps_kind, keeps_number, leaf_of_init, named_types};
 ghost use Rattle.porch_flat.specs.whole.Search.{first_rule};
-ghost use Rattle.porch_flat.specs.inside.Forms.{view_of};
+ghost use Rattle.porch_flat.specs.whole.Views.{view_of};
 ghost use Rattle.porch_flat.specs.inside.Walks.{leaves_before};
 
 use crate::flat::{GlobalObject, Init};

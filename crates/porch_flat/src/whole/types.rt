@@ -7,7 +7,7 @@ ghost use Rattle.porch_values.specs.Integers.{in_range, is_shift};
 ghost use Rattle.porch_flat.specs.whole.Places.{type_at, pointed, type_of_var, pointee_of_var, global_type, type_within, own_type, compared_type, right_type, shown_type, leaf_type};
 ghost use Rattle.porch_flat.specs.whole.Rewritten.{same_number};
 ghost use Rattle.porch_flat.specs.whole.Rules.{is_type, is_whole, is_wide, is_pointer, is_scalar, is_struct, is_constant_of, begins_at};
-ghost use Rattle.porch_flat.specs.inside.Forms.{within_of};
+ghost use Rattle.porch_flat.specs.whole.Views.{within_of};
 
 use crate::flat::Operand;
 use crate::whole::form::Within;
@@ -41,8 +41,8 @@ fn type_of_number(flat: &Flat, ty: u32) -> Option<&Ty>
     }
 }
 
-/// The type of a number, if there is one.
-pub(crate) fn type_at(flat: &Flat, ty: Option<u32>) -> Option<&Ty>
+/// The type of a number, if there is one. It takes no memory.
+pub fn type_at(flat: &Flat, ty: Option<u32>) -> Option<&Ty>
     ensures { option_copied result ≡ type_at flat.now ty }
 {
     match ty {
@@ -130,15 +130,15 @@ pub(crate) fn same_number(left: Option<u32>, right: Option<u32>) -> bool
     }
 }
 
-/// The type of a variable.
-pub(crate) fn type_of_var(f: &Function, v: u32) -> Option<u32>
+/// The type of a variable, if there is one. It takes no memory.
+pub fn type_of_var(f: &Function, v: u32) -> Option<u32>
     ensures { result ≡ type_of_var f.now v }
 {
     f.vars.get(v as usize).copied()
 }
 
-/// What a variable points to.
-pub(crate) fn pointee_of_var(flat: &Flat, f: &Function, v: u32) -> Option<u32>
+/// What a variable points to, where it is a pointer. It takes no memory.
+pub fn pointee_of_var(flat: &Flat, f: &Function, v: u32) -> Option<u32>
     ensures { result ≡ pointee_of_var flat.now f.now v }
 {
     pointed(flat, type_of_var(f, v))
@@ -175,8 +175,9 @@ pub(crate) fn own_type(f: &Function, ty: u32, o: Operand) -> Option<u32>
     }
 }
 
-/// The type in which two operands are compared.
-pub(crate) fn compared_type(f: &Function, left: Operand, right: Operand) -> Option<u32>
+/// The type in which two operands are compared: that of a variable, and `int` for two constants. It takes no
+/// memory.
+pub fn compared_type(f: &Function, left: Operand, right: Operand) -> Option<u32>
     ensures { result ≡ compared_type f.now left right }
 {
     match left {

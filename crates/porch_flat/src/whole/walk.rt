@@ -277,7 +277,8 @@ fn is_main_name(name: &[u8]) -> bool
     name == "main".as_bytes()
 }
 
-fn main_number(flat: &Flat) -> Option<usize>
+/// The number of `main`, which is the first function of that name. It takes no memory.
+pub fn main_number(flat: &Flat) -> Option<usize>
     ensures { result ≡ main_of flat.now }
 {
     flat.functions

@@ -1,0 +1,5 @@
+//! The tests of the abstract machine: programs of the flat text, run to their ends.
+#![tactic(auto)]
+
+#[cfg(test)]
+mod runs;
