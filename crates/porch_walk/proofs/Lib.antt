@@ -3,6 +3,8 @@ pub mod Completes
 pub mod Declarators
 pub mod Expressions
 pub mod First
+pub mod Frames
+pub mod Fronts
 pub mod Joined
 pub mod Kept
 pub mod KindWords
