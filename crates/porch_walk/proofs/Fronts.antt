@@ -20,11 +20,11 @@ are_in_both i [] qs g h = h
 are_in_both i (p ∷ ps) qs g h = (g.0, are_in_both i ps qs g.1 h)
 
 module _ (i : Bool) where
-  none : Front i (λ ps. ps)
+  pub none : Front i (λ ps. ps)
   none = record { own = []; are_in = tt; split = λ ps. refl }
 
   -- a piece in front of a part
-  one : (p : Piece) (G : List Piece → List Piece) → p.inside ≡ i → Front i G → Front i (λ ps. p ∷ G ps)
+  pub one : (p : Piece) (G : List Piece → List Piece) → p.inside ≡ i → Front i G → Front i (λ ps. p ∷ G ps)
   one p G h g = record { own = p ∷ g.own; are_in = (h, g.are_in); split = λ ps. ap (λ qs. p ∷ qs) (g.split ps) }
 
   -- a part in front of a part
@@ -195,14 +195,14 @@ module _ (i : Bool) where
     more_initials_front no_initials d = none
     more_initials_front (with_initial x xs) d = one _ _ refl (chain _ _ (initial_front x d) (more_initials_front xs d))
 
-  begun_front : (s : Option Initial) (d : ℕ) → Front i (begun_pieces i s d)
+  pub begun_front : (s : Option Initial) (d : ℕ) → Front i (begun_pieces i s d)
   begun_front None d = none
   begun_front (Some x) d = one _ _ refl (initial_front x d)
 
   entry_front : (e : Entry) (d : ℕ) → Front i (entry_pieces i e d)
   entry_front e d = chain _ _ (declarator_front e.declarator (suc d)) (begun_front e.initial d)
 
-  more_entries_front : (es : List Entry) (d : ℕ) → Front i (more_entries_pieces i es d)
+  pub more_entries_front : (es : List Entry) (d : ℕ) → Front i (more_entries_pieces i es d)
   more_entries_front [] d = none
   more_entries_front (e ∷ es) d = one _ _ refl (chain _ _ (entry_front e d) (more_entries_front es d))
 

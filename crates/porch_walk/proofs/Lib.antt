@@ -3,6 +3,7 @@ pub mod Completes
 pub mod Declarators
 pub mod Expressions
 pub mod First
+pub mod Flags
 pub mod Frames
 pub mod Fronts
 pub mod Joined
