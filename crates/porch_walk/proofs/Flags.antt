@@ -1,6 +1,6 @@
 -- Each piece of a unit is taken where the walk is in a block or not, as the piece says. A part that runs
 -- alike whatever is pending behind it never comes to what is pending there.
-use Rattle.std.proofs.Common.{◌≡◌, ℕ, inl, inr, Bool, true, false, if◌then◌else◌, List, [], ◌∷◌, ◌++◌, Option, Some, None, refl, sym, ap, subst, ◌∙◌}
+use Rattle.std.proofs.Common.{◌≡◌, ℕ, suc, inl, inr, Bool, true, false, if◌then◌else◌, List, [], ◌∷◌, ◌++◌, Option, Some, None, refl, sym, ap, subst, ◌∙◌}
 use Rattle.porch_tree.specs.declared.word.Keyword.TheVariants as key
 use Rattle.porch_tree.specs.declared.word.Mark.TheVariants as mark
 use Rattle.porch_tree.specs.declared.word.Word.{Word}
@@ -19,6 +19,7 @@ use Rattle.porch_walk.proofs.Meaning.{IsNamed, fresh_of}
 use Rattle.porch_walk.proofs.Passes.{over, Heads, leaves, behind_base, starts, begins_base, differs, at}
 use Rattle.porch_walk.proofs.Accepts.{StartOf, base_run, declarator_run, base_first, declared_behind, must_tokens, declarator_first}
 use Rattle.porch_walk.proofs.Units.{entries_behind, begun_leaves, begun_run, more_entries_run, body_run, body_first, stmts_run}
+use Rattle.porch_walk.proofs.Expressions.{never}
 use Rattle.porch_walk.proofs.Frames.{inner, Framed, nothing, front, left_out, framed}
 use Rattle.porch_walk.proofs.Fronts.{AreIn, Front, chain, one, none, base_front, declarator_front, begun_front, more_entries_front, body_front}
 
@@ -166,3 +167,94 @@ module _ (i : Bool) (p : Piece) where
       (leave (u.names) to (u.fresh) g (u.still)
       (λ rs qs. sym (ap (λ o. run_from o (λ n. over n (p ∷ qs))) (u.reaches rs)) ∙ sym (over_on ws (p ∷ qs) (at types i f (xs ++ rs))) ∙ r rs qs)
       (framed (u.names) (u.fresh) i (heard p.word p.bytes) (u.still) (u.is_inner)) ss ps k)
+
+-- parts of a unit
+
+skip : (b : Bool) (x y : Option Stage) (F : Stage → Type 0) → b ≡ false → agree_on y F → agree_on (if b then x else y) F
+skip true x y F h k = absurd (never h)
+skip false x y F h k = k
+
+module _ (types : List (List ℕ)) (i : Bool) where
+  base_agrees : (b : Base) → IsBase b → ReadsBase types b → (f : List ℕ) (ss : List Symbol) (d : ℕ) (qs : List Piece) → Heads behind_base qs → Agree (at types i f ss) qs → Agree (at types i f (Base_to_come ∷ ss)) (base_pieces i b d qs)
+  base_agrees b g r f ss d [] h k = absurd h
+  base_agrees b g r f ss d (p ∷ ps) h k =
+      let w = base_front i b d in
+      subst (Agree (at types i f (Base_to_come ∷ ss))) (sym (w.split (p ∷ ps)))
+      (part_before i p (w.own) (w.are_in) types types f f (Base_to_come ∷ []) refl
+      (λ rs qs. ap (over (at types i f (Base_to_come ∷ rs))) (sym (w.split (p ∷ qs))) ∙ base_run types i b g r f rs d (p ∷ qs) h) ss ps k)
+
+  declarator_agrees : (n : Naming) (x : Declarator) → IsNamed n x → ReadsDeclarator types x → (f : List ℕ) (ss : List Symbol) (d : ℕ) (qs : List Piece) → Heads leaves qs
+      → Agree (at types i (fresh_of n f x) ss) qs → Agree (at types i f (Declarator_to_come n ∷ ss)) (declarator_pieces i x d qs)
+  declarator_agrees n x g r f ss d [] h k = absurd h
+  declarator_agrees n x g r f ss d (p ∷ ps) h k =
+      let w = declarator_front i x d in
+      subst (Agree (at types i f (Declarator_to_come n ∷ ss))) (sym (w.split (p ∷ ps)))
+      (part_before i p (w.own) (w.are_in) types types f (fresh_of n f x) (Declarator_to_come n ∷ []) refl
+      (λ rs qs. ap (over (at types i f (Declarator_to_come n ∷ rs))) (sym (w.split (p ∷ qs))) ∙ declarator_run types i n x g r f rs d (p ∷ qs) h) ss ps k)
+
+  start_agrees : (s : Option Initial) (es : List Entry) → IsStart s → ReadsStart types s → AreEntries es → ReadsEntries types es → (f : List ℕ) (ss : List Symbol) (d : ℕ) (ps : List Piece)
+      → Agree (at types i f ss) ps → Agree (at types i f (Entry_to_come ∷ ss)) (begun_pieces i s d (more_entries_pieces i es d (mark_piece i mark.Semicolon d ∷ ps)))
+  start_agrees s es g r h q f ss d ps k =
+      let w = chain i (begun_pieces i s d) (λ qs. more_entries_pieces i es d (mark_piece i mark.Semicolon d ∷ qs)) (begun_front i s d)
+      (chain i (more_entries_pieces i es d) (λ qs. mark_piece i mark.Semicolon d ∷ qs) (more_entries_front i es d) (one i (mark_piece i mark.Semicolon d) (λ qs. qs) refl (none i))) in
+      subst (Agree (at types i f (Entry_to_come ∷ ss))) (sym (w.split ps))
+      (whole_part i (w.own) (w.are_in) types types f f (Entry_to_come ∷ []) refl
+      (λ rs qs. ap (over (at types i f (Entry_to_come ∷ rs))) (sym (w.split qs)) ∙ begun_run types i s es g r f rs d qs (more_entries_run types i es h q f rs d qs)) ss ps k)
+
+module _ (types : List (List ℕ)) where
+  -- an item that is no typedef begins with `static` or with a base
+  item_agrees : (k : Option ℕ) (b : Base) → IsBase b → ReadsBase types b → (f : List ℕ) (d : ℕ) (ps : List Piece)
+      → Agree (at types false f (Base_to_come ∷ FileEntries ∷ [])) (base_pieces false b d ps) → Agree (at types false f []) (static_pieces false k d (base_pieces false b d ps))
+  item_agrees (Some k) b g r f d ps = λ h. (refl, h)
+  item_agrees None b g r f d ps =
+      base_first types false (λ q. Agree (at types false f (Base_to_come ∷ FileEntries ∷ [])) q → Agree (at types false f []) q)
+      (λ p qs k h. (h.0, skip (is_key key.Typedef p.word) _ _ (λ n. Agree n qs) (differs begins_base p.word (word.Key key.Typedef) k.begins refl)
+      (skip (is_key key.Static p.word) _ _ (λ n. Agree n qs) (differs begins_base p.word (word.Key key.Static) k.begins refl) h.1))) b g r d ps
+
+  entry_agrees : (x : Declarator) → IsDeclarator true x → (f : List ℕ) (d : ℕ) (ps : List Piece)
+      → Agree (at types false f (Declarator_to_come naming.Must ∷ FirstEntry ∷ [])) (declarator_pieces false x d ps) → Agree (at types false f (FileEntries ∷ [])) (declarator_pieces false x d ps)
+  entry_agrees x g f d ps =
+      declarator_first types false (λ q. Agree (at types false f (Declarator_to_come naming.Must ∷ FirstEntry ∷ [])) q → Agree (at types false f (FileEntries ∷ [])) q) x
+      (λ p qs k h. (h.0, skip (is p.word (word.Mark mark.Semicolon)) _ _ (λ n. Agree n qs) (differs starts p.word (word.Mark mark.Semicolon) k refl) h.1)) d ps (inl (must_tokens types false x g))
+
+  first_agrees : (s : Option Initial) (es : List Entry) (f : List ℕ) (d : ℕ) (ps : List Piece)
+      → Agree (at types false f (Entry_to_come ∷ [])) (begun_pieces false s d (more_entries_pieces false es d (mark_piece false mark.Semicolon d ∷ ps)))
+      → Agree (at types false f (FirstEntry ∷ [])) (begun_pieces false s d (more_entries_pieces false es d (mark_piece false mark.Semicolon d ∷ ps)))
+  first_agrees None [] f d ps h = h
+  first_agrees None (e ∷ es) f d ps h = h
+  first_agrees (Some x) es f d ps h = h
+
+  entries_agree : (es : List Entry) → AreEntries es → ReadsEntries types es → (f : List ℕ) (d : ℕ) (ps : List Piece)
+      → Agree (at types false f []) ps → Agree (at types false f (FileEntries ∷ [])) (entries_pieces false es d (mark_piece false mark.Semicolon d ∷ ps))
+  entries_agree [] g r f d ps h = (refl, h)
+  entries_agree (e ∷ es) g r f d ps h =
+      entry_agrees e.declarator g.0 f (suc d) _
+      (declarator_agrees types false naming.Must e.declarator g.0 r.0 f (FirstEntry ∷ []) (suc d) _ (begun_leaves types false e.initial es d ps)
+      (first_agrees e.initial es f d ps (start_agrees types false e.initial es g.1 r.1 g.2 r.2 f [] d ps h)))
+
+  body_agrees : (ds : List Declaration) (xs : Stmts) → AreDeclarations ds → ReadsDeclarations types ds → BeginsPlain types xs → AreStmts xs → ReadsStmts types xs → (f : List ℕ) (d : ℕ) (ps : List Piece)
+      → Agree (at types true f []) (mark_piece true mark.CloseBrace d ∷ ps) → Agree (at types true f (Body ∷ [])) (declarations_pieces true ds d (stmts_pieces xs d (mark_piece true mark.CloseBrace d ∷ ps)))
+  body_agrees ds xs g r b h q f d ps k =
+      let w = body_front ds xs d in
+      subst (Agree (at types true f (Body ∷ []))) (sym (w.split (mark_piece true mark.CloseBrace d ∷ ps)))
+      (part_before true (mark_piece true mark.CloseBrace d) (w.own) (w.are_in) types types f f (Body ∷ []) refl
+      (λ rs qs. ap (over (at types true f (Body ∷ rs))) (sym (w.split (mark_piece true mark.CloseBrace d ∷ qs)))
+      ∙ body_run types ds g r f rs d _ ∙ body_first types xs b f rs d qs ∙ stmts_run types xs h q f rs d qs) [] ps k)
+
+pub units_agree : (u : TranslationUnit) (types : List (List ℕ)) (f : List ℕ) → AreItems u → ReadsNames types u → Agree (at types false f []) (unit_pieces u)
+units_agree [] types f g r = tt
+units_agree (typedef b x ∷ u) types f g r = (
+  refl,
+  base_agrees types false b g.0.0 r.0 f (Declarator_to_come naming.Typedef ∷ EndTypedef ∷ []) 0 _ (declared_behind types false x 1 _ (inr refl))
+      (declarator_agrees types false naming.Typedef x g.0.1 r.1 f (EndTypedef ∷ []) 1 _ refl (refl, units_agree u (name_in x ∷ types) (name_in x) g.1 r.2)),
+)
+units_agree (declaration x ∷ u) types f g r =
+    item_agrees types x.fixed x.base g.0.0 r.0.0 f 0 _
+    (base_agrees types false x.base g.0.0 r.0.0 f (FileEntries ∷ []) 0 _ (entries_behind types false x.entries g.0.1 0 _)
+    (entries_agree types x.entries g.0.1 r.0.1 f 0 _ (units_agree u types f g.1 r.1)))
+units_agree (function x ∷ u) types f g r =
+    item_agrees types x.fixed x.base g.0.0 r.0.0 f 0 _
+    (base_agrees types false x.base g.0.0 r.0.0 f (FileEntries ∷ []) 0 _ (declared_behind types false x.declarator 1 _ (inl (must_tokens types false x.declarator g.0.1)))
+    (entry_agrees types x.declarator g.0.1 f 1 _
+    (declarator_agrees types false naming.Must x.declarator g.0.1 r.0.1 f (FirstEntry ∷ []) 1 _ refl
+    (refl, body_agrees types x.declarations x.body g.0.2 r.0.2 r.0.3 g.0.3 r.0.4 f 1 _ (refl, units_agree u types f g.1 r.1)))))
