@@ -11,6 +11,7 @@ pub mod Kept
 pub mod KindWords
 pub mod Meaning
 pub mod Passes
+pub mod Reach
 pub mod Sound
 pub mod Tokens
 pub mod Units
