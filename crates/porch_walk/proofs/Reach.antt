@@ -1,5 +1,6 @@
 -- The place that the walk names is the first.
 use Rattle.std.proofs.Common.{◌≡◌, ℕ, zero, suc, ◌+◌, ◌<◌, ◌≤◌, ◌⊎◌, inl, inr, Bool, true, false, List, [], ◌∷◌, ◌++◌, map, length, take, drop, slice_get, Option, Some, None, refl, sym, ap, subst, ◌∙◌, arith, add-one}
+use Rattle.std.proofs.Math.Seq.{take-length}
 use Rattle.std.proofs.lemmas.List.{take-append-drop}
 use Rattle.porch_tree.specs.Pieces.{Spelled, Piece, unit_pieces}
 use Rattle.porch_tree.specs.Grammar.{AreMatched, Matches, is_outside, IsDeepUnit, AreBeginning, Stops, at_token, at_end, inside_at, IsOutside, Fault, syntax_fault, outside, Halts, at_outside, at_stop, at_unit, IsReach}
@@ -122,3 +123,63 @@ not_before ts k n l e p j h (inl o) =
     let u = until j k ts start n (at_most j k h) e p in
     not_outside ts j (u.stage) (under_all j k (length ts) h l) (u.run) (clean_at j k ts start (u.stage) h p (u.run)) o
 not_before ts k n l e p j h (inr o) = not_stopped ts k n l e p j h o
+
+-- what is found there
+
+no_more : (k n : ℕ) → k ≡ n → k ≤ n
+no_more k n h = omega (arith, h)
+
+outside_none : (b : Bool) (ts : List Spelled) → is_outside b (map (λ q. q.word) (drop (length ts) ts)) ≡ false
+outside_none b [] = refl
+outside_none b (t ∷ ts) = outside_none b ts
+
+halts_at : (ts : List Spelled) (k : ℕ) (f : Fault) → ToldOf ts k f → Halted start ts k f → Halts ts k (Some f)
+halts_at ts k f d h = elim (h.how) [
+  | inl a ↦ subst (λ g. Halts ts k (Some g)) (sym a.0) (at_outside (subst (ToldOf ts k) a.0 d))
+  | inr (inl a) ↦ subst (λ g. Halts ts k (Some g)) (sym a.0)
+      (at_stop (subst (ToldOf ts k) a.0 d) (not_outside ts k (h.stage) (at_most k (length ts) a.1) (h.before) a.3))
+  | inr (inr a) ↦ subst (λ g. Halts ts k (Some g)) (sym a.0)
+      (at_stop (subst (ToldOf ts k) a.0 d)
+      (not_outside ts k (h.stage) (no_more k (length ts) a.1) (h.before)
+      (ap (λ j. is_outside h.stage.inside (map (λ q. q.word) (drop j ts))) a.1 ∙ outside_none h.stage.inside ts)))
+]
+
+within_all : (ts : List Spelled) (k : ℕ) (f : Fault) → Halted start ts k f → k ≤ length ts
+within_all ts k f h = elim (h.how) [
+  | inl a ↦ at_most k (length ts) a.1
+  | inr (inl a) ↦ at_most k (length ts) a.1
+  | inr (inr a) ↦ no_more k (length ts) a.1
+]
+
+reach_at : (ts : List Spelled) (k : ℕ) (f : Fault) → ToldOf ts k f → Halted start ts k f → IsReach ts k (Some f)
+reach_at ts k f d h = record {
+  halts = halts_at ts k f d h;
+  first = not_before ts k (h.stage) (within_all ts k f h) (h.before) (h.clean);
+}
+
+clean_all_on : (o : Option Stage) (ts : List Spelled) → ((m : Stage) → Clean m ts → PreClean m (take (length ts) ts) (drop (length ts) ts)) → clean_on o (λ m. Clean m ts) → clean_on o (λ m. PreClean m (take (length ts) ts) (drop (length ts) ts))
+clean_all_on None ts f c = tt
+clean_all_on (Some m) ts f c = f m c
+
+clean_all : (ts : List Spelled) (s : Stage) → Clean s ts → PreClean s (take (length ts) ts) (drop (length ts) ts)
+clean_all [] s c = tt
+clean_all (t ∷ ts) s c = (all_words s.inside t ts (length ts) ∙ c.0, clean_all_on (step s t.word t.bytes) ts (λ m. clean_all ts m) c.1)
+
+itself_most : (n : ℕ) → n ≤ n
+itself_most n = search arith
+
+reach_end : (ts : List Spelled) → Told ts None → Right start ts → IsReach ts (length ts) None
+reach_end ts d r = record {
+  halts = at_unit refl d.0 d.1;
+  first = not_before ts (length ts) (r.last) (itself_most (length ts)) (ap (run start) (take-length ts) ∙ r.run) (clean_all ts start (r.clean));
+}
+
+reach_of : (ts : List Spelled) (o : Option Wrong) → wrong 0 start ts ≡ o → Told ts o → IsReachOf ts o
+reach_of ts None e d = reach_end ts d (right ts 0 start e)
+reach_of ts (Some w) e d =
+    let r = halted ts 0 w start e in
+    let p : w.token ≡ r.passed = r.place ∙ from_zero (r.passed) in
+    subst (λ k. IsReach ts k (Some w.fault)) (sym p) (reach_at ts (r.passed) w.fault (subst (λ k. ToldOf ts k w.fault) p d) (r.halted))
+
+pub reach : (ts : List Spelled) → IsReachOf ts (wrong 0 start ts)
+reach ts = reach_of ts (wrong 0 start ts) refl (told ts)
