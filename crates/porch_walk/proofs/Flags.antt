@@ -17,11 +17,11 @@ use Rattle.porch_walk.specs.Walk.{Stage, step, run_from, is, is_key, heard, behi
 use Rattle.porch_walk.proofs.Words.{same, itself}
 use Rattle.porch_walk.proofs.Meaning.{IsNamed, fresh_of}
 use Rattle.porch_walk.proofs.Passes.{over, Heads, leaves, behind_base, starts, begins_base, differs, at}
-use Rattle.porch_walk.proofs.Accepts.{StartOf, base_run, declarator_run, base_first, declared_behind, must_tokens, declarator_first}
+use Rattle.porch_walk.proofs.Accepts.{base_run, declarator_run, base_first, declared_behind, must_tokens, declarator_first}
 use Rattle.porch_walk.proofs.Units.{entries_behind, begun_leaves, begun_run, more_entries_run, body_run, body_first, stmts_run}
 use Rattle.porch_walk.proofs.Expressions.{never}
 use Rattle.porch_walk.proofs.Frames.{inner, Framed, nothing, front, left_out, framed}
-use Rattle.porch_walk.proofs.Fronts.{AreIn, Front, chain, one, none, base_front, declarator_front, begun_front, more_entries_front, body_front}
+use Rattle.porch_walk.proofs.Fronts.{AreIn, chain, one, none, base_front, declarator_front, begun_front, more_entries_front, body_front}
 
 abbrev pub agree_on : Option Stage → (Stage → Type 0) → Type 0
 agree_on None F = Unit {0}
@@ -208,8 +208,11 @@ module _ (types : List (List ℕ)) where
   item_agrees (Some k) b g r f d ps = λ h. (refl, h)
   item_agrees None b g r f d ps =
       base_first types false (λ q. Agree (at types false f (Base_to_come ∷ FileEntries ∷ [])) q → Agree (at types false f []) q)
-      (λ p qs k h. (h.0, skip (is_key key.Typedef p.word) _ _ (λ n. Agree n qs) (differs begins_base p.word (word.Key key.Typedef) k.begins refl)
-      (skip (is_key key.Static p.word) _ _ (λ n. Agree n qs) (differs begins_base p.word (word.Key key.Static) k.begins refl) h.1))) b g r d ps
+      (λ p qs k h. (
+        h.0,
+        skip (is_key key.Typedef p.word) _ _ (λ n. Agree n qs) (differs begins_base p.word (word.Key key.Typedef) k.begins refl)
+            (skip (is_key key.Static p.word) _ _ (λ n. Agree n qs) (differs begins_base p.word (word.Key key.Static) k.begins refl) h.1),
+      )) b g r d ps
 
   entry_agrees : (x : Declarator) → IsDeclarator true x → (f : List ℕ) (d : ℕ) (ps : List Piece)
       → Agree (at types false f (Declarator_to_come naming.Must ∷ FirstEntry ∷ [])) (declarator_pieces false x d ps) → Agree (at types false f (FileEntries ∷ [])) (declarator_pieces false x d ps)

@@ -3,7 +3,7 @@
 use Rattle.std.proofs.Common.{◌≡◌, ℕ, zero, suc, Bool, true, false, List, [], ◌∷◌, ◌++◌, Option, Some, None, refl, sym, ap, ◌∙◌, append_assoc}
 use Rattle.porch_tree.specs.declared.word.Keyword.{Keyword}
 use Rattle.porch_tree.specs.Mirror.{Name, Expr, name, whole, character, texts, nested, suffixed, prefixed, size_of, cast, row, conditional, assign, sequence, Exprs, no_exprs, with_expr, Operands, no_operands, with_operand, Perhaps, absent, present, Suffix, index, call, member, arrow, increased, decreased, Suffixes, no_suffixes, with_suffix, Base, kind, void, typedef_name, tag, structure, enumeration, Field, field, Fields, no_fields, with_field, Constant, constant, Constants, no_constants, with_constant, Declarator, declarator, Declarators, no_declarators, with_declarator, Core, lacking, named, inner, Bracket, count, empty_list, void_list, param_list, Brackets, no_brackets, with_bracket, Param, param, Params, no_params, with_param, TypeName, type_name, Initial, value, braced, Initials, no_initials, with_initial, Entry, Declaration, Stmt, block, evaluate, choose, choose_else, while_loop, do_loop, for_loop, switch, break, continue, give, Stmts, no_stmts, with_stmt, SwitchEntry, case, default, stmt, SwitchEntries, no_entries, with_entry}
-use Rattle.porch_tree.specs.Pieces.{Piece, text_pieces, const_pieces, star_pieces, kind_pieces, tag_pieces, expr_pieces, operands_pieces, more_pieces, argument_pieces, perhaps_pieces, suffixes_pieces, suffix_pieces, base_pieces, fields_pieces, field_pieces, declarators_pieces, more_declarators_pieces, constants_pieces, more_constants_pieces, constant_pieces, given_pieces, declarator_pieces, core_pieces, brackets_pieces, bracket_pieces, params_pieces, more_params_pieces, param_pieces, type_name_pieces, whole_pieces, optional_pieces, comma_pieces, initial_pieces, initials_pieces, more_initials_pieces, begun_pieces, entry_pieces, more_entries_pieces, entries_pieces, static_pieces, declaration_pieces, declarations_pieces, stmt_pieces, stmts_pieces, switch_pieces, switch_entry_pieces}
+use Rattle.porch_tree.specs.Pieces.{Piece, text_pieces, const_pieces, star_pieces, kind_pieces, tag_pieces, expr_pieces, operands_pieces, more_pieces, argument_pieces, perhaps_pieces, suffixes_pieces, suffix_pieces, base_pieces, fields_pieces, field_pieces, declarators_pieces, more_declarators_pieces, constants_pieces, more_constants_pieces, constant_pieces, given_pieces, declarator_pieces, core_pieces, brackets_pieces, bracket_pieces, params_pieces, more_params_pieces, param_pieces, type_name_pieces, optional_pieces, comma_pieces, initial_pieces, initials_pieces, more_initials_pieces, begun_pieces, entry_pieces, more_entries_pieces, entries_pieces, static_pieces, declaration_pieces, declarations_pieces, stmt_pieces, stmts_pieces, switch_pieces, switch_entry_pieces}
 
 -- all of these are in the block, or outside of it
 abbrev pub AreIn : Bool → List Piece → Type 0

@@ -1,15 +1,14 @@
 -- The place that the walk names is the first.
-use Rattle.std.proofs.Common.{◌≡◌, ℕ, zero, suc, ◌+◌, ◌<◌, ◌≤◌, ◌⊎◌, inl, inr, Bool, true, false, List, [], ◌∷◌, ◌++◌, map, length, take, drop, slice_get, Option, Some, None, refl, sym, ap, subst, ◌∙◌, arith, add-one}
+use Rattle.std.proofs.Common.{◌≡◌, ℕ, zero, suc, ◌+◌, ◌<◌, ◌≤◌, ◌⊎◌, inl, inr, Bool, false, List, [], ◌∷◌, ◌++◌, map, length, take, drop, slice_get, Option, Some, None, refl, sym, ap, subst, ◌∙◌, arith}
 use Rattle.std.proofs.Math.Seq.{take-length}
 use Rattle.std.proofs.lemmas.List.{take-append-drop}
 use Rattle.porch_tree.specs.Pieces.{Spelled, Piece, unit_pieces}
-use Rattle.porch_tree.specs.Grammar.{AreMatched, Matches, is_outside, IsDeepUnit, AreBeginning, Stops, at_token, at_end, inside_at, IsOutside, Fault, syntax_fault, outside, Halts, at_outside, at_stop, at_unit, IsReach}
+use Rattle.porch_tree.specs.Grammar.{AreMatched, is_outside, IsDeepUnit, Stops, at_token, at_end, inside_at, IsOutside, Fault, Halts, at_outside, at_stop, at_unit, IsReach}
 use Rattle.porch_walk.specs.Walk.{Stage, step, start, run_from, run, is_over, Wrong, wrong, ToldOf, Told}
 use Rattle.porch_walk.specs.Reach.{IsReachOf}
 use Rattle.porch_walk.proofs.Expressions.{never}
-use Rattle.porch_walk.proofs.Passes.{at}
 use Rattle.porch_walk.proofs.Flags.{Agree, agree_on, units_agree}
-use Rattle.porch_walk.proofs.First.{no_stage, same_stage, step_same, append_none, over_outside, clean_on, Clean, PreClean, beginning, unit_accepted, Halted, WrongAt, halted, Right, right, from_zero, told}
+use Rattle.porch_walk.proofs.First.{no_stage, same_stage, step_same, append_none, over_outside, clean_on, Clean, PreClean, beginning, unit_accepted, Halted, halted, Right, right, from_zero, told}
 
 no_room : (k : ℕ) → suc k ≤ 0 → ⊥
 no_room k h = omega (arith, h)

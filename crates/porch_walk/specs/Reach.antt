@@ -1,5 +1,5 @@
 -- How far a text is read, by the answer of the walk.
-use Rattle.std.specs.Prelude.{ℕ, List, length, Option, Some, None}
+use Rattle.std.specs.Prelude.{List, length, Option, Some, None}
 use Rattle.porch_tree.specs.Pieces.{Spelled}
 use Rattle.porch_tree.specs.Grammar.{IsReach}
 use Rattle.porch_walk.specs.Walk.{Wrong}
