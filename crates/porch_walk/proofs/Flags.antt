@@ -20,6 +20,7 @@ use Rattle.porch_walk.proofs.Passes.{over, Heads, leaves, behind_base, starts, b
 use Rattle.porch_walk.proofs.Accepts.{base_run, declarator_run, base_first, declared_behind, must_tokens, declarator_first}
 use Rattle.porch_walk.proofs.Units.{entries_behind, begun_leaves, begun_run, more_entries_run, body_run, body_first, stmts_run}
 use Rattle.porch_walk.proofs.Expressions.{never}
+use Rattle.porch_walk.proofs.First.{no_stage, same_stage}
 use Rattle.porch_walk.proofs.Frames.{inner, Framed, nothing, front, left_out, framed}
 use Rattle.porch_walk.proofs.Fronts.{AreIn, chain, one, none, base_front, declarator_front, begun_front, more_entries_front, body_front}
 
@@ -30,12 +31,6 @@ agree_on (Some n) F = F n
 abbrev pub Agree : Stage → List Piece → Type 0
 Agree s [] = Unit {0}
 Agree s (p ∷ ps) = (s.inside ≡ p.inside) × agree_on (step s p.word p.bytes) (λ n. Agree n ps)
-
-no_stage : (s : Stage) → ◌≡◌ {A = Option Stage} None (Some s) → ⊥
-no_stage s h = cc
-
-same_stage : (s n : Stage) → Some s ≡ Some n → s ≡ n
-same_stage s n h = cc
 
 append_none : (ps : List Piece) → ps ++ [] ≡ ps
 append_none [] = refl
