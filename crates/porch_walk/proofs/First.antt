@@ -29,17 +29,17 @@ use Rattle.porch_walk.proofs.Expressions.{never}
 
 -- tokens and their pieces
 
-no_stage : (s : Stage) → ◌≡◌ {A = Option Stage} None (Some s) → ⊥
+pub no_stage : (s : Stage) → ◌≡◌ {A = Option Stage} None (Some s) → ⊥
 no_stage s h = cc
 
-same_stage : (s n : Stage) → Some s ≡ Some n → s ≡ n
+pub same_stage : (s n : Stage) → Some s ≡ Some n → s ≡ n
 same_stage s n h = cc
 
 heard_same : (w : Word) (a b : List ℕ) → HasBytes w a b → name_bytes w a ≡ name_bytes w b
 heard_same word.Name a b h = h
 heard_same w a b h = refl
 
-step_same : (s : Stage) (v w : Word) (a b : List ℕ) → v ≡ w → HasBytes w a b → step s v a ≡ step s w b
+pub step_same : (s : Stage) (v w : Word) (a b : List ℕ) → v ≡ w → HasBytes w a b → step s v a ≡ step s w b
 step_same s v w a b e h =
     ap (λ (u : Word). step s u a) e ∙ ap (λ bs. behind s.types s.fresh s.inside s.pending (record { word = w; bytes = bs })) (heard_same w a b h)
 
@@ -85,11 +85,11 @@ words_same (t ∷ ts) [] h = absurd h
 words_same (t ∷ ts) (p ∷ ps) h = ap (λ w. w ∷ map (λ q. q.word) ts) h.0.word ∙ ap (λ ws. p.word ∷ ws) (words_same ts ps h.1)
 
 -- no token of these is outside the language
-abbrev clean_on : Option Stage → (Stage → Type 0) → Type 0
+abbrev pub clean_on : Option Stage → (Stage → Type 0) → Type 0
 clean_on None F = Unit {0}
 clean_on (Some n) F = F n
 
-abbrev Clean : Stage → List Spelled → Type 0
+abbrev pub Clean : Stage → List Spelled → Type 0
 Clean s [] = Unit {0}
 Clean s (t ∷ ts) = (is_outside s.inside (t.word ∷ map (λ q. q.word) ts) ≡ false) × clean_on (step s t.word t.bytes) (λ n. Clean n ts)
 
@@ -129,7 +129,7 @@ on_from : (o : Option Stage) (ts us : List Spelled) → ((n : Stage) → run n (
 on_from None ts us f = refl
 on_from (Some n) ts us f = f n
 
-run_on : (ts us : List Spelled) (s : Stage) → run s (ts ++ us) ≡ run_from (run s ts) (λ m. run m us)
+pub run_on : (ts us : List Spelled) (s : Stage) → run s (ts ++ us) ≡ run_from (run s ts) (λ m. run m us)
 run_on [] us s = refl
 run_on (t ∷ ts) us s = on_from (step s t.word t.bytes) ts us (run_on ts us)
 
@@ -382,7 +382,7 @@ tag_stage types f i ss key.Enum h g = enum_tag ss types f i g
 tag_stage types f i ss k h g = absurd (never (sym h))
 
 -- these tokens aren't outside the language, with the tokens behind them
-abbrev PreClean : Stage → List Spelled → List Spelled → Type 0
+abbrev pub PreClean : Stage → List Spelled → List Spelled → Type 0
 PreClean s [] rest = Unit {0}
 PreClean s (t ∷ ts) rest = (is_outside s.inside (t.word ∷ map (λ q. q.word) (ts ++ rest)) ≡ false) × clean_on (step s t.word t.bytes) (λ n. PreClean n ts rest)
 
@@ -477,7 +477,7 @@ read_beginning ts rest n e c =
     let a = completed ts n e in
     unit_read (ts ++ ending n) (a.last) (a.run) (a.ended) (clean ts rest start n tt e c)
 
-beginning : (ts rest : List Spelled) (n : Stage) → run start ts ≡ Some n → PreClean start ts rest → AreBeginning ts
+pub beginning : (ts rest : List Spelled) (n : Stage) → run start ts ≡ Some n → PreClean start ts rest → AreBeginning ts
 beginning ts rest n e c = let r = read_beginning ts rest n e c in record { unit = r.part; begins = record { rest = ending n; unit = r.unit } }
 
 -- and what the walk doesn't take begins none
@@ -488,18 +488,18 @@ not_beginning ts e b =
 
 -- where the walk stops
 
-record Halted (s : Stage) (ts : List Spelled) (k : ℕ) (f : Fault) : Type 0 where
-  stage : Stage
-  before : run s (take k ts) ≡ Some stage
-  clean : PreClean s (take k ts) (drop k ts)
-  how : ((f ≡ outside) × (k < length ts) × (is_outside stage.inside (map (λ q. q.word) (drop k ts)) ≡ true))
-      ⊎ ((f ≡ syntax_fault) × (k < length ts) × (run s (take (suc k) ts) ≡ None))
+pub record Halted (s : Stage) (ts : List Spelled) (k : ℕ) (f : Fault) : Type 0 where
+  pub stage : Stage
+  pub before : run s (take k ts) ≡ Some stage
+  pub clean : PreClean s (take k ts) (drop k ts)
+  pub how : ((f ≡ outside) × (k < length ts) × (is_outside stage.inside (map (λ q. q.word) (drop k ts)) ≡ true))
+      ⊎ ((f ≡ syntax_fault) × (k < length ts) × (run s (take (suc k) ts) ≡ None) × (is_outside stage.inside (map (λ q. q.word) (drop k ts)) ≡ false))
       ⊎ ((f ≡ syntax_fault) × (k ≡ length ts) × (is_over stage ≡ false))
 
-record WrongAt (i : ℕ) (w : Wrong) (s : Stage) (ts : List Spelled) : Type 0 where
-  passed : ℕ
-  place : w.token ≡ i + passed
-  halted : Halted s ts passed w.fault
+pub record WrongAt (i : ℕ) (w : Wrong) (s : Stage) (ts : List Spelled) : Type 0 where
+  pub passed : ℕ
+  pub place : w.token ≡ i + passed
+  pub halted : Halted s ts passed w.fault
 
 none_some : (w : Wrong) → ◌≡◌ {A = Option Wrong} None (Some w) → ⊥
 none_some w h = cc
@@ -534,7 +534,7 @@ halted_step : (i : ℕ) (w : Wrong) (s : Stage) (t : Spelled) (ts : List Spelled
     → ((n : Stage) → wrong (i + 1) n ts ≡ Some w → WrongAt (i + 1) w n ts) → wrong_from i o (λ n. wrong (i + 1) n ts) ≡ Some w → WrongAt i w s (t ∷ ts)
 halted_step i w s t ts None h c f e =
     answered i syntax_fault w s (t ∷ ts) e
-    (record { stage = s; before = refl; clean = tt; how = inr (inl (refl, first_of_more (length ts), ap (λ q. run_from q (λ m. run m [])) h)) })
+    (record { stage = s; before = refl; clean = tt; how = inr (inl (refl, first_of_more (length ts), ap (λ q. run_from q (λ m. run m [])) h, c)) })
 halted_step i w s t ts (Some n) h c f e =
     let r = f n e in
     let k = r.halted in
@@ -547,7 +547,7 @@ halted_step i w s t ts (Some n) h c f e =
         clean = (ap (λ qs. is_outside s.inside (t.word ∷ map (λ q. q.word) qs)) (take-append-drop (r.passed) ts) ∙ c, subst (λ q. clean_on q (λ m. PreClean m (take (r.passed) ts) (drop (r.passed) ts))) (sym h) k.clean);
         how = elim (k.how) [
           | inl a ↦ inl (a.0, one_more (r.passed) (length ts) a.1, a.2)
-          | inr (inl a) ↦ inr (inl (a.0, one_more (r.passed) (length ts) a.1, ap (λ q. run_from q (λ m. run m (take (suc (r.passed)) ts))) h ∙ a.2))
+          | inr (inl a) ↦ inr (inl (a.0, one_more (r.passed) (length ts) a.1, ap (λ q. run_from q (λ m. run m (take (suc (r.passed)) ts))) h ∙ a.2, a.3))
           | inr (inr a) ↦ inr (inr (a.0, ap suc a.1, a.2))
         ];
       };
@@ -559,17 +559,17 @@ halted_one i true w s t ts c f e =
     answered i outside w s (t ∷ ts) e (record { stage = s; before = refl; clean = tt; how = inl (refl, first_of_more (length ts), c) })
 halted_one i false w s t ts c f e = halted_step i w s t ts (step s t.word t.bytes) refl c f e
 
-halted : (ts : List Spelled) (i : ℕ) (w : Wrong) (s : Stage) → wrong i s ts ≡ Some w → WrongAt i w s ts
+pub halted : (ts : List Spelled) (i : ℕ) (w : Wrong) (s : Stage) → wrong i s ts ≡ Some w → WrongAt i w s ts
 halted [] i w s e = halted_end i (is_over s) w s refl e
 halted (t ∷ ts) i w s e = halted_one i (is_outside s.inside (t.word ∷ map (λ q. q.word) ts)) w s t ts refl (halted ts (i + 1) w) e
 
 -- where it finds nothing wrong
 
-record Right (s : Stage) (ts : List Spelled) : Type 0 where
-  last : Stage
-  run : run s ts ≡ Some last
-  ended : is_over last ≡ true
-  clean : Clean s ts
+pub record Right (s : Stage) (ts : List Spelled) : Type 0 where
+  pub last : Stage
+  pub run : run s ts ≡ Some last
+  pub ended : is_over last ≡ true
+  pub clean : Clean s ts
 
 some_none : (w : Wrong) → ◌≡◌ {A = Option Wrong} (Some w) None → ⊥
 some_none w h = cc
@@ -595,7 +595,7 @@ right_one : (i : ℕ) (b : Bool) (s : Stage) (t : Spelled) (ts : List Spelled) �
 right_one i true s t ts c f e = absurd (some_none _ e)
 right_one i false s t ts c f e = right_step i s t ts (step s t.word t.bytes) refl c f e
 
-right : (ts : List Spelled) (i : ℕ) (s : Stage) → wrong i s ts ≡ None → Right s ts
+pub right : (ts : List Spelled) (i : ℕ) (s : Stage) → wrong i s ts ≡ None → Right s ts
 right [] i s e = right_end i (is_over s) s refl e
 right (t ∷ ts) i s e = right_one i (is_outside s.inside (t.word ∷ map (λ q. q.word) ts)) s t ts refl (right ts (i + 1)) e
 
@@ -612,7 +612,7 @@ flag_here [] s (p ∷ ps) f h = absurd h
 flag_here (x ∷ us) s [] f h = absurd h
 flag_here (x ∷ us) s (p ∷ ps) f h = sym h.0.3
 
-too_many : (k : ℕ) → suc k ≤ 0 → ⊥
+pub too_many : (k : ℕ) → suc k ≤ 0 → ⊥
 too_many k h = omega (arith, h)
 
 one_less : (k n : ℕ) → suc k ≤ suc n → k ≤ n
@@ -624,13 +624,13 @@ flag_at (suc k) [] us s n ps l e f h = absurd (too_many k l)
 flag_at (suc k) (t ∷ ts) us s n [] l e f h = absurd h
 flag_at (suc k) (t ∷ ts) us s n (p ∷ ps) l e f h = flag_on (step s t.word t.bytes) ts us k n ps e (λ m d. flag_at k ts us m n ps (one_less k (length ts) l) d f) h.1
 
-over_outside : (ss : List Symbol) (b : Bool) → ends_here ss b ≡ true → b ≡ false
+pub over_outside : (ss : List Symbol) (b : Bool) → ends_here ss b ≡ true → b ≡ false
 over_outside [] false h = refl
 over_outside [] true h = absurd (never (sym h))
 over_outside (s ∷ ss) true h = absurd (never (sym h))
 over_outside (s ∷ ss) false h = refl
 
-append_none : (ts : List Spelled) → ts ++ [] ≡ ts
+pub append_none : (ts : List Spelled) → ts ++ [] ≡ ts
 append_none [] = refl
 append_none (t ∷ ts) = ap (λ us. t ∷ us) (append_none ts)
 
@@ -641,10 +641,10 @@ nothing_more ts n e h =
     let l : a.last ≡ n = same_stage (a.last) n (sym (a.run) ∙ ap (λ us. run start (ts ++ us)) h ∙ ap (run start) (append_none ts) ∙ e) in
     over_outside n.pending n.inside (ap is_over (sym l) ∙ a.ended)
 
-whole : (ts : List Spelled) (k : ℕ) → k ≡ length ts → take k ts ≡ ts
+pub whole : (ts : List Spelled) (k : ℕ) → k ≡ length ts → take k ts ≡ ts
 whole ts k h = ap (λ n. take n ts) h ∙ take-length ts
 
-below : (k n : ℕ) → k < n → k ≤ n
+pub below : (k n : ℕ) → k < n → k ≤ n
 below k n h = search arith
 
 told_outside : (ts : List Spelled) (k : ℕ) (n : Stage) → k < length ts → run start (take k ts) ≡ Some n → PreClean start (take k ts) (drop k ts) → is_outside n.inside (map (λ q. q.word) (drop k ts)) ≡ true → IsOutside ts k
@@ -677,7 +677,7 @@ told_by ts k f h = elim (h.how) [
   | inr (inr a) ↦ subst (ToldOf ts k) (sym a.0) (told_end ts k (h.stage) a.1 (h.before) (h.clean) a.2)
 ]
 
-from_zero : (k : ℕ) → 0 + k ≡ k
+pub from_zero : (k : ℕ) → 0 + k ≡ k
 from_zero k = omega arith
 
 told_from : (ts : List Spelled) (o : Option Wrong) → wrong 0 start ts ≡ o → Told ts o

@@ -3,12 +3,16 @@ pub mod Completes
 pub mod Declarators
 pub mod Expressions
 pub mod First
+pub mod Flags
+pub mod Frames
+pub mod Fronts
 pub mod Joined
 pub mod Judging
 pub mod Kept
 pub mod KindWords
 pub mod Meaning
 pub mod Passes
+pub mod Reach
 pub mod Sound
 pub mod Stages
 pub mod Tokens

@@ -172,7 +172,7 @@ module _ (types : List (List ℕ)) where
     entries_end [] d ps = refl
     entries_end (e ∷ es) d ps = refl
 
-    begun_leaves : (s : Option Initial) (es : List Entry) (d : ℕ) (ps : List Piece) → Heads leaves (begun_pieces i s d (more_entries_pieces i es d (mark_piece i mark.Semicolon d ∷ ps)))
+    pub begun_leaves : (s : Option Initial) (es : List Entry) (d : ℕ) (ps : List Piece) → Heads leaves (begun_pieces i s d (more_entries_pieces i es d (mark_piece i mark.Semicolon d ∷ ps)))
     begun_leaves None [] d ps = refl
     begun_leaves None (e ∷ es) d ps = refl
     begun_leaves (Some x) es d ps = refl
@@ -182,13 +182,13 @@ module _ (types : List (List ℕ)) where
     no_start [] f ss d ps = refl
     no_start (e ∷ es) f ss d ps = refl
 
-    begun_run : (s : Option Initial) (es : List Entry) → IsStart s → ReadsStart types s → (f : List ℕ) (ss : List Symbol) (d : ℕ) (ps : List Piece)
+    pub begun_run : (s : Option Initial) (es : List Entry) → IsStart s → ReadsStart types s → (f : List ℕ) (ss : List Symbol) (d : ℕ) (ps : List Piece)
         → on types i f (MoreEntries ∷ ss) (more_entries_pieces i es d (mark_piece i mark.Semicolon d ∷ ps)) ≡ on types i f ss ps
         → on types i f (Entry_to_come ∷ ss) (begun_pieces i s d (more_entries_pieces i es d (mark_piece i mark.Semicolon d ∷ ps))) ≡ on types i f ss ps
     begun_run None es g r f ss d ps m = no_start es f ss d ps ∙ m
     begun_run (Some x) es g r f ss d ps m = initial_run x g r f (MoreEntries ∷ ss) d _ (entries_end es d ps) ∙ m
 
-    more_entries_run : (es : List Entry) → AreEntries es → ReadsEntries types es → (f : List ℕ) (ss : List Symbol) (d : ℕ) (ps : List Piece)
+    pub more_entries_run : (es : List Entry) → AreEntries es → ReadsEntries types es → (f : List ℕ) (ss : List Symbol) (d : ℕ) (ps : List Piece)
         → on types i f (MoreEntries ∷ ss) (more_entries_pieces i es d (mark_piece i mark.Semicolon d ∷ ps)) ≡ on types i f ss ps
     more_entries_run [] g r f ss d ps = refl
     more_entries_run (e ∷ es) g r f ss d ps =
@@ -210,7 +210,7 @@ module _ (types : List (List ℕ)) where
         ∙ declarator_run types i naming.Must e.declarator g.0 r.0 f (Entry_to_come ∷ ss) (suc d) _ (begun_leaves e.initial es d ps)
         ∙ begun_run e.initial es g.1 r.1 f ss d ps (more_entries_run es g.2 r.2 f ss d ps)
 
-    entries_behind : (es : List Entry) → AreEntries es → (d : ℕ) (ps : List Piece) → Heads behind_base (entries_pieces i es d (mark_piece i mark.Semicolon d ∷ ps))
+    pub entries_behind : (es : List Entry) → AreEntries es → (d : ℕ) (ps : List Piece) → Heads behind_base (entries_pieces i es d (mark_piece i mark.Semicolon d ∷ ps))
     entries_behind [] g d ps = refl
     entries_behind (e ∷ es) g d ps = declared_behind types i e.declarator (suc d) _ (inl (must_tokens types i e.declarator g.0))
 
@@ -378,7 +378,7 @@ module _ (types : List (List ℕ)) where
       (no_base_of f (Entries ∷ Body ∷ ss) p.word (names_type types (name_bytes p.word p.bytes)) k.begins
       (λ e. ap (names_type types) (bytes_at types true p.word p.bytes e) ∙ not_known types true o p.bytes (k.plain e) h))
 
-  body_run : (ds : List Declaration) → AreDeclarations ds → ReadsDeclarations types ds → (f : List ℕ) (ss : List Symbol) (d : ℕ) (ps : List Piece) → in_block f (Body ∷ ss) (declarations_pieces true ds d ps) ≡ in_block f (Body ∷ ss) ps
+  pub body_run : (ds : List Declaration) → AreDeclarations ds → ReadsDeclarations types ds → (f : List ℕ) (ss : List Symbol) (d : ℕ) (ps : List Piece) → in_block f (Body ∷ ss) (declarations_pieces true ds d ps) ≡ in_block f (Body ∷ ss) ps
   body_run [] g r f ss d ps = refl
   body_run (x ∷ ds) g r f ss d ps = declaration_run x g.0 r.0 f ss d _ ∙ body_run ds g.1 r.1 f ss d ps
 
@@ -386,7 +386,7 @@ module _ (types : List (List ℕ)) where
       → in_block f (Body ∷ ss) (p ∷ ps) ≡ in_block f (Statements ∷ ss) (p ∷ ps)
   body_same f ss p ps h k = passes _ _ (λ n. over n ps) h
 
-  body_first : (xs : Stmts) → BeginsPlain types xs → (f : List ℕ) (ss : List Symbol) (d : ℕ) (ps : List Piece)
+  pub body_first : (xs : Stmts) → BeginsPlain types xs → (f : List ℕ) (ss : List Symbol) (d : ℕ) (ps : List Piece)
       → in_block f (Body ∷ ss) (stmts_pieces xs d (mark_piece true mark.CloseBrace d ∷ ps)) ≡ in_block f (Statements ∷ ss) (stmts_pieces xs d (mark_piece true mark.CloseBrace d ∷ ps))
   body_first no_stmts b f ss d ps = refl
   body_first (with_stmt s xs) b f ss d ps =
@@ -416,7 +416,7 @@ module _ (types : List (List ℕ)) where
     stmt_run (continue k) g r f ss d ps = refl
     stmt_run (give k e) g r f ss d ps = optional_run e g r f (Must (word.Mark mark.Semicolon) ∷ ss) (suc d) _ _ refl
 
-    stmts_run : (xs : Stmts) → AreStmts xs → ReadsStmts types xs → (f : List ℕ) (ss : List Symbol) (d : ℕ) (ps : List Piece)
+    pub stmts_run : (xs : Stmts) → AreStmts xs → ReadsStmts types xs → (f : List ℕ) (ss : List Symbol) (d : ℕ) (ps : List Piece)
         → in_block f (Statements ∷ ss) (stmts_pieces xs d (mark_piece true mark.CloseBrace d ∷ ps)) ≡ in_block f ss (mark_piece true mark.CloseBrace d ∷ ps)
     stmts_run no_stmts g r f ss d ps = refl
     stmts_run (with_stmt s xs) g r f ss d ps =

@@ -4,5 +4,7 @@ pub mod Walk
 pub mod Wrongs
 -- small texts
 pub mod Worked
+-- how far a text is read
+pub mod Reach
 -- what single steps of the code do
 pub mod inside

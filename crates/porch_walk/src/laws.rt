@@ -5,6 +5,7 @@ ghost use Rattle.porch_tree.specs.Pieces.{Spelled};
 ghost use Rattle.porch_tree.specs.Mirror.{TranslationUnit};
 ghost use Rattle.porch_tree.specs.Grammar.{IsDeepUnit};
 ghost use Rattle.porch_walk.specs.Walk.{start, wrong, Told, IsTaken};
+ghost use Rattle.porch_walk.specs.Reach.{IsReachOf};
 
 /// Where the walk finds nothing wrong, a unit has these tokens. A token that it names for `Syntax` is
 /// the first with which no unit goes on, or the end of what only begins one. One that it names for
@@ -16,4 +17,12 @@ pub fn what_is_wrong_is_told()
 /// The walk takes the tokens of each unit to their end.
 pub fn each_unit_is_taken()
     ensures { (ts : List Spelled) (u : TranslationUnit) → IsDeepUnit ts u → IsTaken ts }
+{}
+
+/// What the walk names is the first fault of `Syntax` and `Outside`: some unit goes on with each token
+/// before it, and none of these is outside the language behind the beginning of any unit. A token that
+/// it names for `Syntax` isn't outside the language either. Where it names none, a unit has the tokens,
+/// and the same holds of all of them. Nesting isn't looked at.
+pub fn the_first_fault_is_told()
+    ensures { (ts : List Spelled) → IsReachOf ts (wrong 0 start ts) }
 {}
