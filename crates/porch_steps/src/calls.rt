@@ -217,7 +217,8 @@ impl Run {
     ) -> Result<AStep, AllocError>
         requires running { self.old.phase ≡ Phase.Running }
         requires place { self.old.frame.next + 1 < 2 ^ 64 }
-        ensures done { Does flat.now self.old self.new (form.call into function operands.now) result }
+        ensures done { Does flat.now self.old self.new
+            (form.call into function operands.now) result }
     {
         let number = function as usize;
         let values = argument_values(alloc, flat, self, params_of(flat, number), operands)?;

@@ -7,11 +7,12 @@ use Rattle.porch_tree.specs.declared.word.Word.{Word}
 use Rattle.porch_tree.specs.Pieces.{Spelled}
 use Rattle.porch_tree.specs.Grammar.{is_outside}
 use Rattle.porch_walk.specs.declared.stage.Stage.{Stage as Kept}
-use Rattle.porch_walk.specs.Walk.{Stage, Wrong, Told, step, start, wrong, wrong_at}
+use Rattle.porch_walk.specs.Reach.{IsReachOf}
+use Rattle.porch_walk.specs.Walk.{Stage, Wrong, step, start, wrong, wrong_at}
 use Rattle.porch_walk.specs.declared.wrong.WalkFault.{WalkFault}
 use Rattle.porch_walk.specs.Wrongs.{fault_of}
 use Rattle.porch_walk.specs.inside.Stages.{Stands, StandsBehind, JudgedOn, Judged, Walked, words_of}
-use Rattle.porch_walk.proofs.First.{told}
+use Rattle.porch_walk.proofs.Reach.{reach}
 
 pub words_are : (text : List ℕ) (ts : List Token) → map (λ q. q.word) (spelled text ts) ≡ words_of ts
 words_are text [] = refl
@@ -73,5 +74,5 @@ walked_to text ts i t rest k next o f w d r e j =
     sym at_token ∙ ap (λ us. wrong i w.stage (spelled text us)) (sym (d ∙ ap (λ us. t ∷ us) (sym r))) ∙ w.same
 
 -- what is said of what the walk finds is said of what is the same
-pub told_of : (ts : List Spelled) (w : Option Wrong) → w ≡ wrong 0 start ts → Told ts w
-told_of ts w e = subst (λ x. Told ts x) (sym e) (told ts)
+pub first_of : (ts : List Spelled) (w : Option Wrong) → w ≡ wrong 0 start ts → IsReachOf ts w
+first_of ts w e = subst (λ x. IsReachOf ts x) (sym e) (reach ts)

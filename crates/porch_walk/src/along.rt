@@ -3,7 +3,8 @@
 ghost use Rattle.std.specs.Prelude.{◌≡◌, ◌+◌, ◌∷◌, IfOk, List, ℕ, map, take, drop};
 ghost use Rattle.porch_tree.specs.Grammar.{is_outside_key, is_file_key, is_tag_key, is_brace, is_name, begins_brace, is_outside};
 ghost use Rattle.porch_lex.specs.Words.{bytes_between, spelled_token, spelled};
-ghost use Rattle.porch_walk.specs.Walk.{Stage as Standing, start, wrong, Told};
+ghost use Rattle.porch_walk.specs.Walk.{Stage as Standing, start, wrong};
+ghost use Rattle.porch_walk.specs.Reach.{IsReachOf};
 ghost use Rattle.porch_walk.specs.Wrongs.{wrong_of};
 ghost use Rattle.porch_walk.specs.inside.Stages.{Stands, Judged, words_of};
 
@@ -16,7 +17,7 @@ use std::alloc::{AllocError, Global};
 
 /// The first token of a text that is outside the language or with which no unit goes on, or the number of
 /// the tokens where they only begin a unit; `None` where they are one. An error is want of memory.
-#[tactic(auto, using(crate::proofs::Judging::told_of))]
+#[tactic(auto, using(crate::proofs::Judging::first_of))]
 pub fn first_wrong(
     alloc: Global,
     text: &[u8],
@@ -25,8 +26,10 @@ pub fn first_wrong(
     ensures exact { IfOk result
         (λ found. wrong_of found ≡ wrong 0 start (spelled text.now tokens.now)) }
 
-    // What it answers is so of the grammar: a unit has these tokens, or the one that is named is wrong.
-    ensures told { IfOk result (λ found. Told (spelled text.now tokens.now) (wrong_of found)) }
+    // What it answers is so of the grammar: the token that is named is the first one that is wrong, or a unit has
+    // these tokens. Nesting is not looked at.
+    ensures first { IfOk result
+        (λ found. IsReachOf (spelled text.now tokens.now) (wrong_of found)) }
 {
     first_place(alloc, text, tokens)
 }
