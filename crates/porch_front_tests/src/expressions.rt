@@ -36,11 +36,13 @@ fn is_assignment(expr: &Expr) -> bool {
 #[test]
 fn operators_of_one_level_are_one_row(rt: HostRuntime) {
     match expression_in(rt.alloc(), b"a - b * c - d") {
-        Some(Expr::Row {
-            level,
-            first: _,
-            more,
-        }) => {
+        Some(
+            Expr::Row {
+                level,
+                first: _,
+                more,
+            },
+        ) => {
             assert_eq!(rt; level, Level::Sum);
             assert_eq!(rt; more.len(), 2);
             match more.as_slice() {
@@ -55,11 +57,13 @@ fn operators_of_one_level_are_one_row(rt: HostRuntime) {
 #[test]
 fn assignments_group_to_the_right(rt: HostRuntime) {
     match expression_in(rt.alloc(), b"a = b = c") {
-        Some(Expr::Assign {
-            assigning: _,
-            place: _,
-            value,
-        }) => assert!(rt; is_assignment(value.get())),
+        Some(
+            Expr::Assign {
+                assigning: _,
+                place: _,
+                value,
+            },
+        ) => assert!(rt; is_assignment(value.get())),
         _ => assert!(rt; false, "no assignment"),
     }
 }
@@ -67,10 +71,12 @@ fn assignments_group_to_the_right(rt: HostRuntime) {
 #[test]
 fn suffixes_stand_behind_one_operand(rt: HostRuntime) {
     match expression_in(rt.alloc(), b"f(a, b = 1)()[0].x->y++") {
-        Some(Expr::Suffixed {
-            operand: _,
-            suffixes,
-        }) => assert_eq!(rt; suffixes.len(), 6),
+        Some(
+            Expr::Suffixed {
+                operand: _,
+                suffixes,
+            },
+        ) => assert_eq!(rt; suffixes.len(), 6),
         _ => assert!(rt; false, "no suffixes"),
     }
 }
@@ -78,6 +84,9 @@ fn suffixes_stand_behind_one_operand(rt: HostRuntime) {
 #[test]
 fn what_is_no_expression_has_no_tree(rt: HostRuntime) {
     for text in ["", "a +", "a b", "(a", "a)", "a ? b", "a[1", "f(a,)"] {
-        assert!(rt; expression_in(rt.alloc(), text.as_bytes()).is_none(), "{text}");
+        assert!(rt;
+            expression_in(rt.alloc(), text.as_bytes()).is_none(),
+            "{text}"
+        );
     }
 }

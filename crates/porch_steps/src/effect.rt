@@ -79,7 +79,7 @@ pub(crate) fn show_counted(how: Display, variable: u32, value: Value) -> Effect
     ensures { (flat : Flat) (under : Environment) (frame : Frame) (callers : List Frame) (s : State)
         → effected flat under frame callers result s
         ≡ counted (value_of value)
-            (λ z. shows flat under frame callers variable s (text_of how z)) }
+        (λ z. shows flat under frame callers variable s (text_of how z)) }
 {
     match value {
         Value::Number(_) => Effect::Show(how, variable, value),
