@@ -1,6 +1,6 @@
 -- The leaves of a new object.
-use Rattle.std.proofs.Common.{◌≡◌, ℕ, zero, suc, ◌+◌, ◌-◌, List, [], ◌∷◌, ◌++◌, map, take, replicate, refl, sym, ap, ◌∙◌, arith}
-use Rattle.std.proofs.lemmas.List.{map-append}
+use Rattle.std.proofs.Common.{◌≡◌, ℕ, zero, suc, ◌+◌, ◌-◌, List, [], ◌∷◌, ◌++◌, map, take, length, replicate, refl, sym, ap, ◌∙◌, arith}
+use Rattle.std.proofs.lemmas.List.{map-append, length-map}
 use Rattle.std.proofs.lemmas.List.FromFn.{map-range_with_len_more}
 use Rattle.std.specs.List.{range_with_len}
 use Rattle.porch_objects.specs.Store as store
@@ -19,6 +19,12 @@ none_taken (suc n) = refl
 pub all_alike : (xs : List Value) (n len : ℕ) (v : Value) → xs ≡ [] → len ≡ 0
     → map value_of (take n xs ++ replicate (n - len) v) ≡ replicate n (value_of v)
 all_alike xs n len v none nil = rw (none, nil, none_taken n) (let same : n - 0 ≡ n = omega arith in rw same (alike n v))
+
+-- leaves that were all given one value
+pub all_become : (old new : List Value) (n : ℕ) (v : Value) → n ≡ length old → new ≡ replicate n v
+    → map value_of new ≡ replicate (length (map value_of old)) (value_of v)
+all_become old new n v len is =
+    ap (λ vs. map value_of vs) is ∙ alike n v ∙ ap (λ k. replicate k (value_of v)) (len ∙ sym (length-map old value_of))
 
 -- one leaf more
 pub one_more : (f : ℕ → store.Value) (old new : List Value) (v : Value) (n : ℕ) → map value_of old ≡ map f (range_with_len 0 n)

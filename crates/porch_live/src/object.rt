@@ -1,5 +1,5 @@
 //! Objects, each a root with the values of its leaves.
-ghost use Rattle.std.specs.Prelude.{◌≡◌, ◌+◌, ◌≤◌, ◌∷◌, [], nat_le, take, drop, length, map, slice_get, slice_set, slice_index_or, IfOk};
+ghost use Rattle.std.specs.Prelude.{◌≡◌, ◌+◌, ◌≤◌, ◌∷◌, [], nat_le, take, drop, length, map, replicate, slice_get, slice_set, slice_index_or, IfOk};
 ghost use Rattle.porch_objects.specs.Store.{indeterminate, with_leaves, changed_at, fresh, zeroed};
 ghost use Rattle.porch_objects.specs.Pointers.{block_of};
 ghost use Rattle.porch_live.specs.Views.{value_of, root_of};
@@ -111,6 +111,7 @@ impl Object {
         match edit {
             Edit::Leaf { leaf, value } => self.set_leaf(*leaf, *value),
             Edit::Part { at, values } => self.set_part(*at as usize, values),
+            Edit::Forget => self.forget(),
         }
     }
 
@@ -138,6 +139,14 @@ impl Object {
             return false;
         }
         count <= self.leaves.len() - at
+    }
+
+    /// All leaves become indeterminate.
+    fn forget(&mut self)
+        ensures { self.new
+            ≡ with_leaves self.old (replicate (length self.old.leaves) indeterminate) }
+    {
+        self.leaves.fill(Value::Indeterminate);
     }
 
     /// Leaves from one on become others, where the object has all of them.

@@ -1,7 +1,7 @@
 //! The store: what lives, and how calls, allocations and checkpoints are counted.
 ghost use Rattle.std.specs.Prelude.{◌≡◌, is_some, IfOk, OnOk, OnErr};
 ghost use Rattle.std.specs.Option.{option_map};
-ghost use Rattle.porch_objects.specs.Store.{store_of, object_at, seen, leaf_at, changed, with_leaf_at, innermost, entered, left, reached_one, with_blocks};
+ghost use Rattle.porch_objects.specs.Store.{store_of, object_at, seen, leaf_at, changed, forgotten, with_leaf_at, innermost, entered, left, reached_one, with_blocks};
 ghost use Rattle.porch_objects.specs.Pointers.{allocate, release, without_block};
 ghost use Rattle.porch_live.specs.inside.Edits.{edited};
 ghost use Rattle.porch_live.specs.Answers.{after, allocation_of};
@@ -119,6 +119,13 @@ impl Store {
         ensures { self.new ≡ with_leaf_at self.old (home_of home) leaf (value_of value) }
     {
         self.edit(home, &Edit::Leaf { leaf, value });
+    }
+
+    /// All leaves of an object become indeterminate. Where there is no such object nothing changes.
+    pub fn forget(&mut self, home: Home)
+        ensures { self.new ≡ forgotten self.old (home_of home) }
+    {
+        self.edit(home, &Edit::Forget);
     }
 
     /// Changes an object, where it lives.

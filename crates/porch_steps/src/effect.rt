@@ -22,6 +22,8 @@ pub(crate) enum Effect {
     On,
     /// A variable becomes a value.
     Become(u32, Value),
+    /// All leaves of a variable become indeterminate.
+    Forget(u32),
     /// A value that is a number is shown, and a variable becomes the number of bytes.
     Show(Display, u32, Value),
     /// Goes on at a place.

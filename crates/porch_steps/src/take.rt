@@ -7,7 +7,7 @@ ghost use Rattle.porch_objects.specs.Meaning.{Environment, byte_of};
 ghost use Rattle.porch_objects.specs.Store.{with_leaf_at, variable_home};
 ghost use Rattle.porch_abstract.specs.Held.{Answers};
 ghost use Rattle.porch_abstract.specs.whole.Machine.{text_of};
-ghost use Rattle.porch_live.specs.Views.{value_of};
+ghost use Rattle.porch_live.specs.Views.{value_of, home_of};
 ghost use Rattle.porch_steps.specs.inside.Effects.{Led, shown_by, number_in, received_in};
 ghost use Rattle.porch_steps.specs.inside.Kept.{state_of};
 
@@ -127,11 +127,18 @@ pub(crate) fn put(store: &mut Store, variable: u32, value: Value)
     ensures { store.new
         ≡ with_leaf_at store.old (variable_home store.old variable) 0 (value_of value) }
 {
-    let home = Home::Call {
+    let home = variable_home(store, variable);
+    store.set_leaf(home, 0, value);
+}
+
+// Where a variable of the innermost call lives.
+fn variable_home(store: &Store, variable: u32) -> Home
+    ensures { home_of result ≡ variable_home store.now variable }
+{
+    Home::Call {
         call: store.innermost(),
         variable,
-    };
-    store.set_leaf(home, 0, value);
+    }
 }
 
 impl Run {
@@ -144,6 +151,7 @@ impl Run {
         match effect {
             Effect::On => self.on(),
             Effect::Become(variable, value) => self.give_value(variable, value),
+            Effect::Forget(variable) => self.forget(variable),
             Effect::Show(how, variable, value) => self.show(how, variable, value),
             Effect::Go(place) => self.go(place),
             Effect::Count => self.count(),
@@ -168,6 +176,17 @@ impl Run {
         ensures led { Led self.old self.new (Effect.Become variable value) result }
     {
         put(&mut self.store, variable, value);
+        self.frame.next += 1;
+        Ok(AStep::Went)
+    }
+
+    fn forget(&mut self, variable: u32) -> Result<AStep, AllocError>
+        requires running { self.old.phase ≡ Phase.Running }
+        requires place { self.old.frame.next + 1 < 2 ^ 64 }
+        ensures led { Led self.old self.new (Effect.Forget variable) result }
+    {
+        let home = variable_home(&self.store, variable);
+        self.store.forget(home);
         self.frame.next += 1;
         Ok(AStep::Went)
     }

@@ -15,10 +15,11 @@ fn loads<D: Disk>(alloc: Global, disk: &mut D, file: FileName, bytes: &[u8]) -> 
     }
 }
 
-// Whether the front of the layouts is loaded with these bytes.
+// Whether the front of the layouts is loaded with these bytes, and nothing behind them is asked for.
 fn loads_front(alloc: Global, disk: &mut Quiet, most: u64, bytes: &[u8]) -> bool {
+    disk.furthest = 0;
     match load_front(alloc, disk, FileName::Layouts, most) {
-        Ok(front) => front.as_slice() == bytes,
+        Ok(front) => front.as_slice() == bytes && disk.furthest <= most,
         Err(_) => false,
     }
 }
@@ -31,6 +32,7 @@ fn quiet_of(alloc: Global, at_once: usize, said: Option<u16>) -> Result<Quiet, A
         disk,
         at_once,
         said,
+        furthest: 0,
     })
 }
 

@@ -12,6 +12,8 @@ pub struct Quiet {
     pub at_once: usize,
     /// The length that it says of each file, where it isn't the file's own.
     pub said: Option<u16>,
+    /// How many bytes of a file its reads asked for, from the first one on.
+    pub furthest: u64,
 }
 
 impl Quiet {
@@ -21,6 +23,7 @@ impl Quiet {
             disk,
             at_once: 4096,
             said: None,
+            furthest: 0,
         }
     }
 }
@@ -39,6 +42,7 @@ impl Disk for Quiet {
     }
 
     fn read(&mut self, file: FileName, at: u64, buf: &mut [u8]) -> Result<usize, Failed> {
+        self.furthest = self.furthest.max(at.saturating_add(buf.len() as u64));
         let most = buf.len().min(self.at_once);
         self.disk.read(file, at, &mut buf[..most])
     }

@@ -1,10 +1,10 @@
 -- Changes of objects.
-use Rattle.std.specs.Prelude.{ℕ, ◌+◌, Bool, false, Option, Some, None, nat_le, if◌then◌else◌, List, ◌++◌, take, drop, length, map, slice_set}
-use Rattle.porch_objects.specs.Store.{Value, Object, with_leaves}
+use Rattle.std.specs.Prelude.{ℕ, ◌+◌, Bool, false, Option, Some, None, nat_le, if◌then◌else◌, List, ◌++◌, take, drop, length, map, replicate, slice_set}
+use Rattle.porch_objects.specs.Store.{Value, Object, indeterminate, with_leaves}
 use Rattle.porch_objects.specs.Pointers.{spliced}
 use Rattle.porch_live.specs.declared.value.Value as code
 use Rattle.porch_live.specs.declared.edit.Edit.{Edit}
-use Rattle.porch_live.specs.declared.edit.Edit.TheVariants.{Leaf, Part}
+use Rattle.porch_live.specs.declared.edit.Edit.TheVariants.{Leaf, Part, Forget}
 use Rattle.porch_live.specs.Views.{value_of}
 
 -- leaves from one on become others, where the object has all of them
@@ -24,3 +24,4 @@ spliced_in values at new = take at values ++ (new ++ drop (at + length new) valu
 abbrev pub edited : Edit → Object → Object
 edited (Leaf leaf value) object = with_leaves object (slice_set object.leaves leaf (value_of value))
 edited (Part at values) object = with_part at (map value_of values.items) object
+edited Forget object = with_leaves object (replicate (length object.leaves) indeterminate)

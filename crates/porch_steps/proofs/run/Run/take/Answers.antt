@@ -6,6 +6,9 @@ returns-in-On c = record { led = λ flat under. rw c.in-On.is (c.on.ensures.led 
 pub returns-in-Become : goal.returns-in-Become
 returns-in-Become c = record { led = λ flat under. rw c.in-Become.is (c.give_value.ensures.led flat under) }
 
+pub returns-in-Forget : goal.returns-in-Forget
+returns-in-Forget c = record { led = λ flat under. rw c.in-Forget.is (c.forget.ensures.led flat under) }
+
 pub returns-in-Show : goal.returns-in-Show
 returns-in-Show c = record { led = λ flat under. rw c.in-Show.is (c.show.ensures.led flat under) }
 
