@@ -5,3 +5,5 @@
 
 #[cfg(test)]
 mod top;
+#[cfg(test)]
+mod words;

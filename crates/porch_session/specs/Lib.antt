@@ -1,0 +1,2 @@
+-- which limits are allowed
+pub mod Limits

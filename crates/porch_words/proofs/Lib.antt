@@ -1,0 +1,6 @@
+mod Digits
+mod Split
+mod Steps
+mod Named
+mod Values
+mod Ordered
