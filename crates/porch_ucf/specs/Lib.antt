@@ -2,5 +2,9 @@
 pub mod Fields
 -- the header of a checkpoint file
 pub mod Headers
+-- what a checkpoint holds
+pub mod Images
+-- the bytes of a checkpoint file
+pub mod Files
 -- what is wrong with a header
 pub mod HeaderFlaws

@@ -32,6 +32,8 @@ pub const ZEROS_AT: usize = 56;
 pub const PROGRAM_AT: usize = 64;
 /// How many bytes a header has.
 pub const HEADER_BYTES: usize = 96;
+/// How many bytes a digest has.
+pub const DIGEST_BYTES: usize = 32;
 /// The version of the format.
 pub const VERSION: u32 = 1;
 /// The most turns that a run may have made.
@@ -72,6 +74,7 @@ pub fn read_header(text: &[u8]) -> Result<Header, ImageFault>
 pub fn put_header(into: &mut Vec<u8>, header: &Header)
     requires { length into.old.items + HEADER_BYTES ≤ vec_capacity into.old }
     ensures items { into.new.items ≡ into.old.items ++ header_bytes header.now }
+    ensures length { length into.new.items ≡ length into.old.items + HEADER_BYTES }
     ensures room { vec_capacity into.old ≤ vec_capacity into.new }
 {
     put(into, b"PORCHUCF");

@@ -4,11 +4,15 @@
 mod fault;
 mod field;
 mod header;
+mod image;
 mod room;
+mod write;
 
 pub use fault::{ImageFault, Reason};
 pub use header::{
-    BLOCKS_AT, BODY_AT, FRAMES_AT, HEADER_BYTES, Header, MAGIC_AT, MOST_BLOCKS, MOST_TURNS,
-    NUMBER_AT, OUTPUT_AT, PROGRAM_AT, TURNS_AT, VERSION, VERSION_AT, ZERO_AT, ZEROS_AT, put_header,
-    read_header,
+    BLOCKS_AT, BODY_AT, DIGEST_BYTES, FRAMES_AT, HEADER_BYTES, Header, MAGIC_AT, MOST_BLOCKS,
+    MOST_TURNS, NUMBER_AT, OUTPUT_AT, PROGRAM_AT, TURNS_AT, VERSION, VERSION_AT, ZERO_AT, ZEROS_AT,
+    put_header, read_header,
 };
+pub use image::{BlockRow, FrameRow, Image};
+pub use write::{SEAL_BYTES, write_image};
