@@ -1,5 +1,6 @@
 -- What a checkpoint holds.
 use Rattle.std.specs.Prelude.{◌≡◌, ℕ, ◌+◌, ◌*◌, List, length}
+use Rattle.porch_ucf.specs.declared.front.TheConstants.{ROW_BYTES}
 use Rattle.porch_ucf.specs.declared.header.Header.{Header}
 use Rattle.porch_ucf.specs.declared.image.FrameRow.{FrameRow}
 use Rattle.porch_ucf.specs.declared.image.BlockRow.{BlockRow}
@@ -12,10 +13,6 @@ pub record Checkpoint : Type 0 where
   pub blocks : List BlockRow
   -- the packed values of the globals, of the variables of each frame and of the blocks
   pub bytes : List ℕ
-
--- a frame or a block is two numbers of 32 bits
-abbrev pub ROW_BYTES : ℕ
-ROW_BYTES = 8
 
 -- how many bytes so many rows have
 abbrev pub rows_size : ℕ → ℕ → ℕ

@@ -8,3 +8,5 @@ pub mod Images
 pub mod Files
 -- what is wrong with a header
 pub mod HeaderFlaws
+-- what is wrong with a file before its rows are read
+pub mod FrontFlaws

@@ -160,7 +160,8 @@ fn header_in(text: &[u8]) -> Header
     }
 }
 
-fn damaged(place: usize, reason: Reason) -> ImageFault
+/// A fault at a place.
+pub(crate) fn damaged(place: usize, reason: Reason) -> ImageFault
     ensures { result ≡ ImageFault.Damaged place reason }
 {
     ImageFault::Damaged {

@@ -3,12 +3,14 @@
 
 mod fault;
 mod field;
+mod front;
 mod header;
 mod image;
 mod room;
 mod write;
 
 pub use fault::{ImageFault, Reason};
+pub use front::{ROW_BYTES, read_front};
 pub use header::{
     BLOCKS_AT, BODY_AT, DIGEST_BYTES, FRAMES_AT, HEADER_BYTES, Header, MAGIC_AT, MOST_BLOCKS,
     MOST_TURNS, NUMBER_AT, OUTPUT_AT, PROGRAM_AT, TURNS_AT, VERSION, VERSION_AT, ZERO_AT, ZEROS_AT,

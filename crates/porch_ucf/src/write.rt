@@ -3,8 +3,8 @@
 ghost use Rattle.std.specs.Prelude.{◌≡◌, ◌≤◌, ◌+◌, ◌*◌, ◌++◌, [], length, vec_capacity};
 ghost use Rattle.std.specs.List.{flat_map};
 ghost use Rattle.porch_ucf.specs.Files.{frame_bytes, block_bytes, unsealed, sealed, file_of};
-ghost use Rattle.porch_ucf.specs.Images.{ROW_BYTES};
 
+use crate::front::ROW_BYTES;
 use crate::header::{DIGEST_BYTES, HEADER_BYTES, put_header};
 use crate::image::{BlockRow, FrameRow, Image};
 use crate::room::{put, put_u32};

@@ -1,7 +1,7 @@
 use Rattle.std.proofs.Common.{◌≡◌, ◌≤◌, ◌+◌, ◌*◌, ◌++◌, length, take, vec_capacity}
 use Rattle.std.specs.List.{flat_map}
 use Rattle.porch_ucf.specs.Files.{block_bytes}
-use Rattle.porch_ucf.specs.Images.{ROW_BYTES}
+use Rattle.porch_ucf.specs.declared.front.TheConstants.{ROW_BYTES}
 use Rattle.porch_ucf.proofs.write.put_blocks.Given as goal
 
 abbrev pub invariant-loop-block : goal.invariant-loop-block
