@@ -10,3 +10,9 @@ pub mod Files
 pub mod HeaderFlaws
 -- what is wrong with a file before its rows are read
 pub mod FrontFlaws
+-- what a file holds, by place
+pub mod Reading
+-- the first number that fails a test
+pub mod FirstFailing
+-- what is wrong with the rows, and with the size of the data
+pub mod RowFlaws

@@ -6,7 +6,9 @@ mod field;
 mod front;
 mod header;
 mod image;
+mod resumable;
 mod room;
+mod rows;
 mod write;
 
 pub use fault::{ImageFault, Reason};
@@ -17,4 +19,5 @@ pub use header::{
     put_header, read_header,
 };
 pub use image::{BlockRow, FrameRow, Image};
+pub use resumable::MOST_COUNT;
 pub use write::{SEAL_BYTES, write_image};
