@@ -1,2 +1,4 @@
 pub mod FirstFailing
 pub mod ReadInOrder
+pub mod Walks
+pub mod Known

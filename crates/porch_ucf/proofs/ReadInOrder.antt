@@ -1,5 +1,5 @@
 -- Rows that are read one after the other.
-use Rattle.std.proofs.Common.{◌≡◌, ℕ, zero, suc, ◌+◌, List, [], ◌∷◌, ◌++◌, map, refl, ap, sym, ◌∙◌, add-one, arith}
+use Rattle.std.proofs.Common.{◌≡◌, ℕ, zero, suc, ◌+◌, [], ◌∷◌, ◌++◌, map, ap, ◌∙◌, add-one, arith}
 use Rattle.std.specs.List.{range_with_len}
 
 one_more : {X : Type 0} (f : ℕ → X) (a i : ℕ) → map f (range_with_len a (suc i)) ≡ map f (range_with_len a i) ++ f (a + i) ∷ []

@@ -1,5 +1,5 @@
 -- The bytes of a checkpoint file: the header, the rows, the data, and the digest of all but the gate.
-use Rattle.std.specs.Prelude.{ℕ, ◌+◌, List, ◌++◌, drop, length}
+use Rattle.std.specs.Prelude.{ℕ, List, ◌++◌, drop}
 use Rattle.std.specs.List.{flat_map}
 use Rattle.byteorder.specs.Endian.{big_bytes}
 use Rattle.sha2.specs.Sha256.{sha256}

@@ -1,5 +1,5 @@
 -- What is wrong with a checkpoint file before its rows are read, in the order in which it is looked for.
-use Rattle.std.specs.Prelude.{ℕ, ◌+◌, ◌-◌, nat_le, List, [], ◌∷◌, length, take, drop, Option}
+use Rattle.std.specs.Prelude.{ℕ, ◌+◌, nat_le, List, [], ◌∷◌, length, take, drop, Option}
 use Rattle.std.specs.Str.{bytes_eq}
 use Rattle.sha2.specs.Sha256.{sha256}
 use Rattle.porch_ucf.specs.declared.fault.Reason.TheVariants.{Length, Digest, Rows}

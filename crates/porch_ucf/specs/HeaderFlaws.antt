@@ -1,10 +1,9 @@
 -- What is wrong with the header of a checkpoint file, in the order in which it is looked for.
-use Rattle.std.specs.Prelude.{ℕ, ◌==◌, nat_le, Bool, not, ◌&&◌, List, [], ◌∷◌, take, drop, codes, Option, Some, None, if◌then◌else◌}
+use Rattle.std.specs.Prelude.{◌≡◌, ◌⊎◌, ℕ, ◌==◌, nat_le, Bool, ◌&&◌, List, [], ◌∷◌, take, drop, codes, Option, Some, None, if◌then◌else◌}
 use Rattle.std.specs.Str.{bytes_eq}
-use Rattle.porch_ucf.specs.declared.fault.Reason.{Reason}
 use Rattle.porch_ucf.specs.declared.fault.Reason.TheVariants.{Magic, Version, Reserved, Counts}
 use Rattle.porch_ucf.specs.declared.fault.ImageFault.{ImageFault}
-use Rattle.porch_ucf.specs.declared.fault.ImageFault.TheVariants.{Damaged}
+use Rattle.porch_ucf.specs.declared.fault.ImageFault.TheVariants.{Damaged, NoMemory}
 use Rattle.porch_ucf.specs.declared.header.Header.{Header}
 use Rattle.porch_ucf.specs.declared.header.TheConstants.{MAGIC_AT, VERSION_AT, FRAMES_AT, NUMBER_AT, TURNS_AT, BLOCKS_AT, ZERO_AT, ZEROS_AT, VERSION, MOST_TURNS, MOST_BLOCKS}
 use Rattle.porch_ucf.specs.Fields.{u32_in, u64_in}
@@ -19,6 +18,10 @@ abbrev pub first_of : List (Option ImageFault) → Option ImageFault
 first_of [] = None
 first_of (Some fault ∷ later) = Some fault
 first_of (None ∷ later) = first_of later
+
+-- why a file isn't read: its flaw, or want of memory
+abbrev pub IsRefusal : Option ImageFault → ImageFault → Type 0
+IsRefusal flaw fault = (fault ≡ NoMemory) ⊎ (flaw ≡ Some fault)
 
 -- the name of the format stands behind the gate
 abbrev pub magic_flaw : List ℕ → Option ImageFault

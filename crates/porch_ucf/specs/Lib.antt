@@ -14,5 +14,9 @@ pub mod FrontFlaws
 pub mod Reading
 -- the first number that fails a test
 pub mod FirstFailing
--- what is wrong with the rows, and with the size of the data
+-- what is wrong with the rows
 pub mod RowFlaws
+-- the objects whose values are the data, and where they stand in it
+pub mod Objects
+-- what only private contracts cite
+pub mod inside

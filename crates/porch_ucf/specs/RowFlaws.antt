@@ -1,22 +1,18 @@
--- What is wrong with the rows of a checkpoint, and with the size of its data.
-use Rattle.std.specs.Prelude.{ℕ, ◌+◌, ◌-◌, ◌*◌, ◌==◌, nat_lt, nat_le, Bool, true, false, ◌&&◌, ◌||◌, List, [], ◌∷◌, ◌++◌, length, map, position, slice_get, sum_by, option_and_then, Option, Some, None}
-use Rattle.std.specs.List.{flat_map}
+-- What is wrong with the rows of a checkpoint.
+use Rattle.std.specs.Prelude.{ℕ, ◌+◌, ◌-◌, ◌==◌, nat_lt, nat_le, Bool, true, false, ◌&&◌, ◌||◌, List, length, position, slice_get, option_and_then, Option, Some, None}
 use Rattle.std.specs.Option.{option_map}
 use Rattle.porch_types.specs.declared.shapes.Ty.{Ty}
-use Rattle.porch_metrics.specs.Extents.{extent_of, ucf_layout}
 use Rattle.porch_flat.specs.declared.whole.Flat.{Flat}
 use Rattle.porch_flat.specs.whole.Form.{Form, form_of, call, checkpoint, saved}
-use Rattle.porch_flat.specs.whole.Places.{is_number, commands_of, vars_of, main_of}
+use Rattle.porch_flat.specs.whole.Places.{is_number, commands_of, main_of}
 use Rattle.porch_flat.specs.whole.Rewritten.{same_number, passes}
-use Rattle.porch_ucf.specs.declared.fault.Reason.TheVariants.{Frame, Block, Size}
+use Rattle.porch_ucf.specs.declared.fault.Reason.TheVariants.{Frame, Block}
 use Rattle.porch_ucf.specs.declared.fault.ImageFault.{ImageFault}
 use Rattle.porch_ucf.specs.declared.fault.ImageFault.TheVariants.{Damaged}
-use Rattle.porch_ucf.specs.declared.header.TheConstants.{BODY_AT}
 use Rattle.porch_ucf.specs.declared.image.FrameRow.{FrameRow}
 use Rattle.porch_ucf.specs.declared.image.BlockRow.{BlockRow}
 use Rattle.porch_ucf.specs.declared.resumable.TheConstants.{MOST_COUNT}
 use Rattle.porch_ucf.specs.FirstFailing.{first_failing}
-use Rattle.porch_ucf.specs.HeaderFlaws.{unless}
 use Rattle.porch_ucf.specs.Reading.{row_place}
 
 -- the call number that a SAVED keeps
@@ -69,23 +65,3 @@ abbrev pub block_flaw : List Ty → (frames : ℕ) → List BlockRow → Option 
 block_flaw types frames blocks =
     option_map (λ i. Damaged (row_place (frames + i)) Block)
     (first_failing (λ i. passes (is_block types) (slice_get blocks i)) 0 (length blocks))
-
--- an object of one element
-abbrev pub single : ℕ → BlockRow
-single ty = record { ty = ty; count = 1 }
-
--- the objects whose values are the data, in order: globals, the variables of each frame, heap blocks
-abbrev pub objects_of : Flat → List FrameRow → List BlockRow → List BlockRow
-objects_of program frames blocks =
-    map (λ g. single g.ty) program.globals
-    ++ (flat_map (λ frame. map single (vars_of (slice_get program.functions frame.function))) frames
-    ++ blocks)
-
--- how many bytes an object has, packed
-abbrev pub packed_size : List Ty → BlockRow → ℕ
-packed_size types object = object.count * (extent_of ucf_layout types object.ty).size
-
--- the data has the bytes of its objects
-abbrev pub size_flaw : List Ty → List BlockRow → List ℕ → Option ImageFault
-size_flaw types objects bytes =
-    unless (sum_by (packed_size types) objects == length bytes) (Damaged BODY_AT Size)

@@ -1,11 +1,13 @@
 //! Checkpoints as bytes: what a checkpoint file holds, written and read. Start at `Header`.
 #![tactic(auto)]
 
+mod body;
 mod fault;
 mod field;
 mod front;
 mod header;
 mod image;
+mod placing;
 mod resumable;
 mod room;
 mod rows;

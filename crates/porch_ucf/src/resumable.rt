@@ -62,8 +62,10 @@ fn function_at(frames: &[FrameRow], i: usize) -> Option<u32>
 /// Whether the frame waits at a call of the next one's function, or at a checkpoint where none is next.
 fn waits(program: &Flat, frames: &[FrameRow], i: usize) -> bool
     requires { i < length frames.now }
-    ensures { result ≡ passes (λ frame. passes (waits_for (function_of (slice_get frames.now (i + 1))))
-        (call_of program.now frame.function frame.call)) (slice_get frames.now i) }
+    ensures { result ≡ passes
+        (λ frame. passes (waits_for (function_of (slice_get frames.now (i + 1))))
+        (call_of program.now frame.function frame.call))
+        (slice_get frames.now i) }
 {
     let frame = frames[i];
     match call_of(program, frame.function, frame.call) {

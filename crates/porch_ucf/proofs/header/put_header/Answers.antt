@@ -1,4 +1,4 @@
-use Rattle.std.proofs.Common.{◌≡◌, ◌++◌, List, ℕ, append_assoc, refl}
+use Rattle.std.proofs.Common.{append_assoc}
 use Rattle.porch_ucf.proofs.header.put_header.Goals as goal
 
 pub returns-clause-items : goal.returns-clause-items

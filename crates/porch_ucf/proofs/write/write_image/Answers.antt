@@ -1,4 +1,4 @@
-use Rattle.std.proofs.Common.{◌≡◌, ◌++◌, ap, ◌∙◌, append_assoc}
+use Rattle.std.proofs.Common.{◌≡◌, ap, ◌∙◌, append_assoc}
 use Rattle.porch_ucf.specs.Files.{sealed, unsealed}
 use Rattle.porch_ucf.proofs.write.write_image.Goals as goal
 

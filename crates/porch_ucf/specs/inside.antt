@@ -1,0 +1,2 @@
+-- the objects of a checkpoint, put into its data one after the other
+pub mod Placing
