@@ -2,3 +2,4 @@ pub mod FirstFailing
 pub mod ReadInOrder
 pub mod Walks
 pub mod Known
+pub mod WordsInside

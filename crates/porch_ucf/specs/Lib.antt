@@ -18,5 +18,7 @@ pub mod FirstFailing
 pub mod RowFlaws
 -- the objects whose values are the data, and where they stand in it
 pub mod Objects
+-- what is wrong with the data, leaf by leaf
+pub mod DataFlaws
 -- what only private contracts cite
 pub mod inside

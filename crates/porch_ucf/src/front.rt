@@ -1,6 +1,6 @@
 //! The front of a checkpoint file: what can be told of it before its rows are read.
 
-ghost use Rattle.std.specs.Prelude.{◌≡◌, ◌≤◌, ◌+◌, length, IfOk, IfErr, OnOk, Some, None};
+ghost use Rattle.std.specs.Prelude.{◌≡◌, ◌≤◌, ◌<◌, ◌^◌, ◌+◌, length, IfOk, IfErr, OnOk, Some, None};
 ghost use Rattle.porch_ucf.specs.Headers.{header_of};
 ghost use Rattle.porch_ucf.specs.FrontFlaws.{length_flaw, digest_flaw, program_flaw, rows_flaw, front_flaw};
 ghost use Rattle.porch_ucf.specs.Images.{rows_size};
@@ -86,7 +86,8 @@ fn check_rows(header: &Header) -> Result<(), ImageFault>
 
 /// How many bytes the rows have.
 pub(crate) fn rows_size(header: &Header) -> u64
-    ensures { result ≡ rows_size header.now.frames header.now.blocks }
+    ensures size { result ≡ rows_size header.now.frames header.now.blocks }
+    ensures few { result < 2 ^ 36 }
 {
     ROW_BYTES * (u64::from(header.frames) + u64::from(header.blocks))
 }

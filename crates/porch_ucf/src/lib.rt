@@ -7,6 +7,7 @@ mod field;
 mod front;
 mod header;
 mod image;
+mod leaves;
 mod placing;
 mod resumable;
 mod room;
