@@ -3,3 +3,4 @@ pub mod ReadInOrder
 pub mod Walks
 pub mod Known
 pub mod WordsInside
+pub mod FirstLeaf

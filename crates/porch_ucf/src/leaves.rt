@@ -10,7 +10,7 @@ ghost use Rattle.porch_points.specs.Plans.{AreKnown, FollowOn, end_of};
 ghost use Rattle.porch_ucf.specs.declared.fault.ImageFault.{ImageFault};
 ghost use Rattle.porch_ucf.specs.DataFlaws.{leaf_count, leaf_place, file_place, type_of_leaf, word_of_leaf, long_value, is_long, IsBadWord, IsTooWide, IsFaulty, IsFirstFaulty, IsFaultless};
 ghost use Rattle.porch_ucf.specs.Reading.{row_place};
-ghost use Rattle.porch_ucf.specs.inside.Leaves.{ArePlaced, ArePointees, IsFirstOf, IsSoundBelow, WordsLieInside};
+ghost use Rattle.porch_ucf.specs.inside.Leaves.{ArePlaced, ArePointees, EndWithin, IsFirstOf, IsSoundBelow, WordsLieInside};
 
 use crate::fault::{ImageFault, Reason};
 use crate::field::read_u64;
@@ -33,6 +33,53 @@ pub(crate) enum Sought {
     Words,
     /// A long value that the layout has no room for.
     Values,
+}
+
+/// Refuses the first faulty leaf, in the order of the data.
+pub(crate) fn check_leaves(
+    sought: Sought,
+    metrics: &Metrics,
+    objects: &Roots,
+    image: &Image,
+) -> Result<(), ImageFault>
+    requires placed { ArePlaced metrics.now.types objects.now.items }
+    requires pointees { ArePointees metrics.now.types }
+    requires inside { EndWithin metrics.now.types objects.now.items (length image.now.bytes) }
+    ensures sound { OnOk result (IsFaultless sought metrics.now.layout metrics.now.types
+        objects.now.items image.now) }
+    ensures first { IfErr result (λ fault. IsFirstFaulty sought metrics.now.layout
+        metrics.now.types objects.now.items image.now fault) }
+{
+    for object in objects.as_slice() {
+        check_object(sought, metrics, objects, image, *object)?;
+    }
+    Ok(())
+}
+
+/// Refuses the first faulty leaf of an object.
+fn check_object(
+    sought: Sought,
+    metrics: &Metrics,
+    objects: &Roots,
+    image: &Image,
+    object: Root,
+) -> Result<(), ImageFault>
+    requires placed { ArePlaced metrics.now.types objects.now.items }
+    requires pointees { ArePointees metrics.now.types }
+    requires known { object.ty < length metrics.now.types }
+    requires inside { end_of ucf_layout metrics.now.types object ≤ length image.now.bytes }
+    ensures sound { OnOk result (IsSoundBelow sought metrics.now.layout metrics.now.types
+        objects.now.items image.now object (leaf_count metrics.now.types object)) }
+    ensures first { IfErr result (λ fault. IsFirstOf sought metrics.now.layout metrics.now.types
+        objects.now.items image.now object fault) }
+{
+    let leaves = u64::from(object.count) * metrics.types().leaves(object.ty);
+    for leaf in 0..leaves {
+        if let Some(fault) = leaf_fault(sought, metrics, objects, image, object, leaf) {
+            return Err(fault);
+        }
+    }
+    Ok(())
 }
 
 /// The fault of a leaf, if it has one.
@@ -157,7 +204,8 @@ fn long_of_leaf(metrics: &Metrics, object: Root, leaf: u64) -> Option<Kind>
         type_of_leaf metrics.now.types object leaf ≡ Some (Ty.Whole kind)) }
     ensures long { IfSome result (λ kind. is_long kind ≡ true) }
     ensures none { IfNone result ((kind : Kind)
-        → type_of_leaf metrics.now.types object leaf ≡ Some (Ty.Whole kind) → is_long kind ≡ false) }
+        → type_of_leaf metrics.now.types object leaf ≡ Some (Ty.Whole kind)
+        → is_long kind ≡ false) }
     ensures inside { OnSome result (leaf_place metrics.now.types object leaf + 8
         ≤ end_of ucf_layout metrics.now.types object) }
 {

@@ -21,6 +21,12 @@ pub record ArePlaced (types : List Ty) (objects : List Root) : Type 0 where
   pub known : AreKnown types objects
   pub follow : FollowOn ucf_layout types objects
 
+-- objects end within so many bytes
+abbrev pub EndWithin : List Ty → List Root → (most : ℕ) → Type 0
+EndWithin types objects most =
+    (i : ℕ) (object : Root) → slice_get objects i ≡ Some object
+    → end_of ucf_layout types object ≤ most
+
 -- the eight bytes of a pointer or a long lie inside their object
 abbrev pub WordsLieInside : Type 0
 WordsLieInside =
