@@ -7,7 +7,6 @@ use Rattle.porch_types.specs.declared.shapes.Ty.TheVariants.{Whole, Pointer}
 use Rattle.porch_types.specs.Leaves.{leaves_of}
 use Rattle.porch_types.specs.LeafTypes.{leaf_type}
 use Rattle.porch_values.specs.Integers.{is_signed, signed_bits, in_range}
-use Rattle.porch_layout.specs.declared.layout.Layout.{Layout}
 use Rattle.porch_metrics.specs.Extents.{ucf_layout}
 use Rattle.porch_metrics.specs.Places.{place_of}
 use Rattle.porch_find.specs.declared.roots.Root.{Root}
@@ -59,14 +58,14 @@ is_long kind = false
 abbrev pub long_value : Kind → (word : ℕ) → ℤ
 long_value kind word = if is_signed kind then signed_bits 64 (pos word) else pos word
 
--- a long value outside the range that it has under the layout
-pub record IsTooWide (under : Layout) (types : List Ty) (c : Checkpoint) (object : Root) (leaf : ℕ)
+-- a long value outside the range that its kind has where long has so many bytes
+pub record IsTooWide (long : ℕ) (types : List Ty) (c : Checkpoint) (object : Root) (leaf : ℕ)
     (fault : ImageFault) : Type 0 where
   pub kind : Kind
   pub is_whole : type_of_leaf types object leaf ≡ Some (Whole kind)
-  pub long : is_long kind ≡ true
+  pub kind_is_long : is_long kind ≡ true
   pub outside :
-      in_range kind (8 * under.long) (long_value kind (word_of_leaf types c.bytes object leaf))
+      in_range kind (8 * long) (long_value kind (word_of_leaf types c.bytes object leaf))
       ≡ false
   pub fault_is :
       fault
@@ -74,17 +73,17 @@ pub record IsTooWide (under : Layout) (types : List Ty) (c : Checkpoint) (object
       (file_place types c object leaf)
 
 -- what is looked for in a leaf
-abbrev pub IsFaulty : Sought → Layout → List Ty → List Root → Checkpoint → Root → ℕ → ImageFault → Type 0
-IsFaulty Words under types objects c object leaf fault = IsBadWord types objects c object leaf fault
-IsFaulty Values under types objects c object leaf fault = IsTooWide under types c object leaf fault
+abbrev pub IsFaulty : Sought → List Ty → List Root → Checkpoint → Root → ℕ → ImageFault → Type 0
+IsFaulty Words types objects c object leaf fault = IsBadWord types objects c object leaf fault
+IsFaulty (Values long) types objects c object leaf fault = IsTooWide long types c object leaf fault
 
-module _ (sought : Sought) (under : Layout) (types : List Ty) (objects : List Root) (c : Checkpoint) where
+module _ (sought : Sought) (types : List Ty) (objects : List Root) (c : Checkpoint) where
   -- a leaf of an object is faulty
   pub record FaultyLeaf (number leaf : ℕ) (fault : ImageFault) : Type 0 where
     pub object : Root
     pub is_object : slice_get objects number ≡ Some object
     pub within : leaf < leaf_count types object
-    pub faulty : IsFaulty sought under types objects c object leaf fault
+    pub faulty : IsFaulty sought types objects c object leaf fault
 
   -- the first in the order of the data: of the earliest object its earliest leaf
   pub record IsFirstFaulty (fault : ImageFault) : Type 0 where

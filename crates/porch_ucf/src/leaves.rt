@@ -10,7 +10,7 @@ ghost use Rattle.porch_points.specs.Plans.{AreKnown, FollowOn, end_of};
 ghost use Rattle.porch_ucf.specs.declared.fault.ImageFault.{ImageFault};
 ghost use Rattle.porch_ucf.specs.DataFlaws.{leaf_count, leaf_place, file_place, type_of_leaf, word_of_leaf, long_value, is_long, IsBadWord, IsTooWide, IsFaulty, IsFirstFaulty, IsFaultless};
 ghost use Rattle.porch_ucf.specs.Reading.{row_place};
-ghost use Rattle.porch_ucf.specs.inside.Leaves.{ArePlaced, ArePointees, EndWithin, IsFirstOf, IsSoundBelow, WordsLieInside};
+ghost use Rattle.porch_ucf.specs.inside.Leaves.{ArePlaced, ArePointees, EndWithin, HasSize, IsFirstOf, IsSoundBelow, WordsLieInside};
 
 use crate::fault::{ImageFault, Reason};
 use crate::field::read_u64;
@@ -31,8 +31,8 @@ use porch_values::{greatest, least};
 pub(crate) enum Sought {
     /// A pointer whose word names nothing.
     Words,
-    /// A long value that the layout has no room for.
-    Values,
+    /// A long value that has no room in so many bytes.
+    Values { long: u8 },
 }
 
 /// Refuses the first faulty leaf, in the order of the data.
@@ -42,13 +42,13 @@ pub(crate) fn check_leaves(
     objects: &Roots,
     image: &Image,
 ) -> Result<(), ImageFault>
+    requires size { HasSize sought }
     requires placed { ArePlaced metrics.now.types objects.now.items }
     requires pointees { ArePointees metrics.now.types }
     requires inside { EndWithin metrics.now.types objects.now.items (length image.now.bytes) }
-    ensures sound { OnOk result (IsFaultless sought metrics.now.layout metrics.now.types
+    ensures sound { OnOk result (IsFaultless sought metrics.now.types
         objects.now.items image.now) }
-    ensures first { IfErr result (λ fault. IsFirstFaulty sought metrics.now.layout
-        metrics.now.types objects.now.items image.now fault) }
+    ensures first { IfErr result (λ fault. IsFirstFaulty sought metrics.now.types objects.now.items image.now fault) }
 {
     for object in objects.as_slice() {
         check_object(sought, metrics, objects, image, *object)?;
@@ -64,13 +64,14 @@ fn check_object(
     image: &Image,
     object: Root,
 ) -> Result<(), ImageFault>
+    requires size { HasSize sought }
     requires placed { ArePlaced metrics.now.types objects.now.items }
     requires pointees { ArePointees metrics.now.types }
     requires known { object.ty < length metrics.now.types }
     requires inside { end_of ucf_layout metrics.now.types object ≤ length image.now.bytes }
-    ensures sound { OnOk result (IsSoundBelow sought metrics.now.layout metrics.now.types
+    ensures sound { OnOk result (IsSoundBelow sought metrics.now.types
         objects.now.items image.now object (leaf_count metrics.now.types object)) }
-    ensures first { IfErr result (λ fault. IsFirstOf sought metrics.now.layout metrics.now.types
+    ensures first { IfErr result (λ fault. IsFirstOf sought metrics.now.types
         objects.now.items image.now object fault) }
 {
     let leaves = u64::from(object.count) * metrics.types().leaves(object.ty);
@@ -91,20 +92,20 @@ fn leaf_fault(
     object: Root,
     leaf: u64,
 ) -> Option<ImageFault>
+    requires size { HasSize sought }
     requires placed { ArePlaced metrics.now.types objects.now.items }
     requires pointees { ArePointees metrics.now.types }
     requires known { object.ty < length metrics.now.types }
     requires inside { end_of ucf_layout metrics.now.types object ≤ length image.now.bytes }
     requires near { leaf ≤ 2 ^ 52 }
     requires within { leaf < leaf_count metrics.now.types object }
-    ensures some { IfSome result (λ fault. IsFaulty sought metrics.now.layout metrics.now.types
+    ensures some { IfSome result (λ fault. IsFaulty sought metrics.now.types
         objects.now.items image.now object leaf fault) }
-    ensures none { IfNone result ((fault : ImageFault) → IsFaulty sought metrics.now.layout
-        metrics.now.types objects.now.items image.now object leaf fault → ⊥) }
+    ensures none { IfNone result ((fault : ImageFault) → IsFaulty sought metrics.now.types objects.now.items image.now object leaf fault → ⊥) }
 {
     match sought {
         Sought::Words => word_fault(metrics, objects, image, object, leaf),
-        Sought::Values => value_fault(metrics, image, object, leaf),
+        Sought::Values { long } => value_fault(metrics, image, object, leaf, long),
     }
 }
 
@@ -143,22 +144,29 @@ fn word_fault(
     }
 }
 
-/// The fault of a long value that the layout has no room for.
-fn value_fault(metrics: &Metrics, image: &Image, object: Root, leaf: u64) -> Option<ImageFault>
+/// The fault of a long value that has no room in so many bytes.
+fn value_fault(
+    metrics: &Metrics,
+    image: &Image,
+    object: Root,
+    leaf: u64,
+    long: u8,
+) -> Option<ImageFault>
+    requires size { IsSize long }
     requires known { object.ty < length metrics.now.types }
     requires inside { end_of ucf_layout metrics.now.types object ≤ length image.now.bytes }
     requires near { leaf ≤ 2 ^ 52 }
     requires within { leaf < leaf_count metrics.now.types object }
-    ensures some { IfSome result (λ fault. IsTooWide metrics.now.layout metrics.now.types image.now
+    ensures some { IfSome result (λ fault. IsTooWide long metrics.now.types image.now
         object leaf fault) }
     ensures none { IfNone result ((fault : ImageFault)
-        → IsTooWide metrics.now.layout metrics.now.types image.now object leaf fault → ⊥) }
+        → IsTooWide long metrics.now.types image.now object leaf fault → ⊥) }
 {
     match long_of_leaf(metrics, object, leaf) {
         None => None,
         Some(kind) => {
             let value = long_value(kind, word_of_leaf(metrics, image, object, leaf));
-            if is_in_range(kind, metrics.layout().long, value) {
+            if is_in_range(kind, long, value) {
                 None
             } else {
                 let place = file_place(metrics, image, object, leaf);
