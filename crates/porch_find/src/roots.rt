@@ -41,6 +41,13 @@ impl Roots {
         })
     }
 
+    /// These roots. It takes no memory.
+    pub fn from_vec(roots: Vec<Root>) -> Roots
+        ensures { result.items ≡ roots.items }
+    {
+        Roots { roots }
+    }
+
     /// The roots, in order.
     pub fn as_slice(&self) -> &[Root]
         ensures { result.now ≡ self.now.items }

@@ -1,3 +1,4 @@
 pub mod Naming
 pub mod Wording
 pub mod Addressing
+pub mod Displacing

@@ -2,5 +2,7 @@
 pub mod Plans
 -- the words of addresses, and the addresses of words
 pub mod Words
+-- the words that a checkpoint may have, by its data alone
+pub mod Displacements
 -- objects on which an example is worked out
 pub mod Worked

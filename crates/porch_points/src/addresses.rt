@@ -89,7 +89,7 @@ fn address_at(metrics: &Metrics, object: Root, leaf: u64, past: bool, pointee: u
 }
 
 /// Whether the last bit of a word is set.
-fn is_odd(word: u64) -> bool
+pub(crate) fn is_odd(word: u64) -> bool
     ensures { word ≡ 2 * (word / 2) + (if result then 1 else 0) }
 {
     word % 2 == 1

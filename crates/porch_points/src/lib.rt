@@ -4,12 +4,14 @@
 #![tactic(auto)]
 
 mod addresses;
+mod displacements;
 mod named;
 mod plan;
 mod words;
 mod worked;
 
 pub use addresses::{BadWord, to_address};
+pub use displacements::is_displacement;
 pub use plan::{DEAD, Plan, dead_is_all_ones};
 pub use words::to_word;
 pub use worked::pointers_into_an_array;

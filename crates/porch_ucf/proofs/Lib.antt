@@ -1,0 +1,6 @@
+pub mod FirstFailing
+pub mod ReadInOrder
+pub mod Walks
+pub mod Known
+pub mod WordsInside
+pub mod FirstLeaf
