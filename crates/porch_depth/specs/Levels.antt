@@ -1,11 +1,12 @@
 -- How many counted uses of the grammar each token of a text lies in, as far as the tokens up to some place
 -- show it. A walk along the tokens keeps, for each part that may still come, in how many uses it lies.
-use Rattle.std.specs.Prelude.{ℕ, suc, ◌+◌, ◌-◌, Bool, nat_lt, if◌then◌else◌, List, [], ◌∷◌, ◌++◌, length, take, Option, Some, None}
+use Rattle.std.specs.Prelude.{ℕ, suc, ◌+◌, ◌-◌, Bool, nat_lt, if◌then◌else◌, List, [], ◌∷◌, ◌++◌, map, length, take, Option, Some, None}
 use Rattle.porch_tree.specs.declared.word.Word.{Word}
 use Rattle.porch_tree.specs.Pieces.{Spelled}
 use Rattle.porch_tree.specs.Grammar.{MOST_USES, nesting}
 use Rattle.porch_walk.specs.declared.symbol.Symbol.{Symbol}
-use Rattle.porch_walk.specs.Walk.{Stage, step, start, name_bytes, names_type, Wrong, wrong, wrong_at}
+use Rattle.porch_walk.specs.Walk.{Stage, step, start, Wrong, wrong, wrong_at}
+use Rattle.porch_walk.specs.Walks.{knows}
 use Rattle.porch_depth.specs.declared.level.Level.{Level}
 use Rattle.porch_depth.specs.declared.level.Reading.{Reading}
 use Rattle.porch_depth.specs.declared.level.Step.{Step}
@@ -28,14 +29,9 @@ under [] = []
 under (l ∷ ls) = ls
 
 -- behind token `i`, which a part of this level takes
-module _ (l : Level) (i : ℕ) where
-  abbrev pub placed_step : Step → Level
-  placed_step (Up n) = level (l.uses + n) i
-  placed_step Keep = l
-
-  abbrev pub placed : List Step → List Level
-  placed [] = []
-  placed (s ∷ ss) = placed_step s ∷ placed ss
+abbrev pub placed : Level → ℕ → Step → Level
+placed l i (Up n) = level (l.uses + n) i
+placed l i Keep = l
 
 -- A token that was read, and the levels of the parts that may come behind it. `back` is how many tokens
 -- before it turn out to lie one use deeper.
@@ -48,7 +44,7 @@ reading_by l i p =
     record { uses = l.uses + p.taken.uses; back = if p.taken.raises then i - l.start else 0 }
 
 abbrev pub read_by : Level → ℕ → Plan → List Level → Read
-read_by l i p ls = record { reading = reading_by l i p; levels = placed l i p.steps ++ ls }
+read_by l i p ls = record { reading = reading_by l i p; levels = map (placed l i) p.steps ++ ls }
 
 abbrev pub read_or : Level → ℕ → Option Plan → List Level → Read → Read
 read_or l i None ls other = other
@@ -63,17 +59,13 @@ abbrev pub readings_from : Option Stage → (Stage → List Reading) → List Re
 readings_from None go = []
 readings_from (Some s) go = go s
 
--- whether a token is a typedef name where the walk stands
-abbrev pub is_known : Stage → Spelled → Bool
-is_known s t = names_type s.types (name_bytes t.word t.bytes)
-
 -- These tokens, the first of which is token `i`, are read up to the first that can't come.
 abbrev pub readings : Stage → List Level → ℕ → List Spelled → List Reading
 readings s ls i [] = []
 readings s ls i (t ∷ ts) =
     readings_from (step s t.word t.bytes)
-    (λ next. (read (is_known s t) i t.word s.pending ls).reading
-    ∷ readings next (read (is_known s t) i t.word s.pending ls).levels (suc i) ts)
+    (λ next. (read (knows s t) i t.word s.pending ls).reading
+    ∷ readings next (read (knows s t) i t.word s.pending ls).levels (suc i) ts)
 
 -- how many of these put the token deeper that stands so many tokens before them
 abbrev pub covering : ℕ → List Reading → ℕ

@@ -1,6 +1,6 @@
 -- In how many counted uses of the grammar a token lies, beside those of the part that takes it, and in how
 -- many the parts lie that may come behind it. The parts are those of the walk, in its order.
-use Rattle.std.specs.Prelude.{ℕ, ◌+◌, Bool, true, false, ◌&&◌, ◌||◌, if◌then◌else◌, List, [], ◌∷◌, Option, Some, None}
+use Rattle.std.specs.Prelude.{ℕ, ◌+◌, Bool, true, false, ◌&&◌, ◌||◌, if◌then◌else◌, List, [], ◌∷◌, ◌++◌, Option, Some, None}
 use Rattle.porch_tree.specs.declared.word.Keyword.{Keyword}
 use Rattle.porch_tree.specs.declared.word.Keyword.TheVariants as key
 use Rattle.porch_tree.specs.declared.word.Mark.{Mark}
@@ -34,6 +34,11 @@ took uses steps = Some (record { taken = record { uses = uses; raises = false };
 abbrev pub raised : Option Plan → Option Plan
 raised None = None
 raised (Some p) = Some (record { taken = record { uses = p.taken.uses; raises = true }; steps = p.steps })
+
+-- with these parts behind those of a plan
+abbrev pub ahead : Option Plan → List Step → Option Plan
+ahead None later = None
+ahead (Some p) later = Some (record { taken = p.taken; steps = p.steps ++ later })
 
 -- a part that begins here or later, so many uses deeper
 abbrev pub up : ℕ → Step
@@ -85,15 +90,15 @@ is_kind None = false
 is_kind (Some k) = true
 
 -- what is behind an operand that begins here, and one of which a parenthesis was read
-abbrev pub rest : Mode → ℕ → List Step → List Step
-rest mode.Assign d later = up d ∷ later
-rest mode.Cond d later = up d ∷ later
-rest m d later = later
+abbrev pub rest : Mode → ℕ → List Step
+rest mode.Assign d = up d ∷ []
+rest mode.Cond d = up d ∷ []
+rest m d = []
 
-abbrev pub rest_kept : Mode → List Step → List Step
-rest_kept mode.Assign later = Keep ∷ later
-rest_kept mode.Cond later = Keep ∷ later
-rest_kept m later = later
+abbrev pub rest_kept : Mode → List Step
+rest_kept mode.Assign = Keep ∷ []
+rest_kept mode.Cond = Keep ∷ []
+rest_kept m = []
 
 -- Behind `sizeof` a type in parentheses counts no more than `sizeof` does.
 abbrev pub opening : Mode → ℕ
@@ -113,20 +118,19 @@ contents tag_sort.Struct = took 0 (up 1 ∷ up 2 ∷ up 1 ∷ up 0 ∷ up 0 ∷ 
 contents tag_sort.Enum = took 0 (up 0 ∷ up 0 ∷ up 0 ∷ up 0 ∷ [])
 
 -- A declarator in parentheses counts.
-abbrev pub core_opened : Naming → ℕ → List Step → List Step
-core_opened naming.May d later = up d ∷ later
-core_opened n d later = up (d + 1) ∷ up d ∷ up d ∷ later
+abbrev pub core_opened : Naming → ℕ → List Step
+core_opened naming.May d = up d ∷ []
+core_opened n d = up (d + 1) ∷ up d ∷ up d ∷ []
 
 module _ (known : Bool) (w : Word) where
   -- An operand is a unary or a cast, which counts.
-  abbrev pub unary : Mode → ℕ → List Step → Option Plan
-  unary m d later =
-      if is w word.Text then took (d + 1) (up (d + 1) ∷ up (d + 1) ∷ rest m d later)
-      else took (d + 1) (up (d + 1) ∷ rest m d later)
+  abbrev pub unary : Mode → ℕ → Option Plan
+  unary m d =
+      if is w word.Text then took (d + 1) (up (d + 1) ∷ up (d + 1) ∷ rest m d)
+      else took (d + 1) (up (d + 1) ∷ rest m d)
 
-  abbrev pub operand : Mode → ℕ → List Step → Option Plan
-  operand m d later =
-      if is_mark mark.OpenParenthesis w then took (d + opening m) (up d ∷ later) else unary m d later
+  abbrev pub operand : Mode → ℕ → Option Plan
+  operand m d = if is_mark mark.OpenParenthesis w then took (d + opening m) (up d ∷ []) else unary m d
 
   -- Behind a parenthesis. An expression in it is an expr in a unary, both of which count; that the
   -- parenthesis behind `sizeof` begins a unary shows only here.
@@ -135,11 +139,14 @@ module _ (known : Bool) (w : Word) where
   open_type m = took (opening m) (up (opening m) ∷ up (opening m) ∷ up (opening m) ∷ behind_type m)
 
   abbrev pub nested : Mode → Option Plan
-  nested m = operand mode.Assign 2 (up 2 ∷ up 1 ∷ up 1 ∷ rest_kept m [])
+  nested m = ahead (operand mode.Assign 2) (up 2 ∷ up 1 ∷ up 1 ∷ rest_kept m)
+
+  abbrev pub late : Mode → Option Plan → Option Plan
+  late mode.Size p = raised p
+  late m p = p
 
   abbrev pub opened : Mode → Option Plan
-  opened mode.Size = if begins_base known w then open_type mode.Size else raised (nested mode.Size)
-  opened m = if takes_type m && begins_base known w then open_type m else nested m
+  opened m = if takes_type m && begins_base known w then open_type m else late m (nested m)
 
   -- The expression in brackets is an expr; the arguments of a call are none.
   abbrev pub suffix_mark : Mark → Option Plan
@@ -162,16 +169,12 @@ module _ (known : Bool) (w : Word) where
       else if is_mark mark.Question w then raised (took 1 (up 2 ∷ up 2 ∷ up 1 ∷ up 1 ∷ []))
       else if u && is_assigning w then raised (took 1 (up 1 ∷ [])) else None
 
-  abbrev pub lacking : Naming → ℕ → List Step → Option Plan
-  lacking n d later =
-      if may_lack n && is_mark mark.OpenBracket w then took d (up d ∷ up d ∷ later) else None
-
-  abbrev pub declarator : Naming → ℕ → List Step → Option Plan
-  declarator n d later =
-      if is_mark mark.Star w then took d (up d ∷ later)
-      else if may_name n && is w word.Name then took d (up d ∷ later)
-      else if may_name n && is_mark mark.OpenParenthesis w then took d (core_opened n d later)
-      else lacking n d later
+  abbrev pub declarator : Naming → ℕ → Option Plan
+  declarator n d =
+      if is_mark mark.Star w then took d (up d ∷ [])
+      else if may_name n && is w word.Name then took d (up d ∷ [])
+      else if may_name n && is_mark mark.OpenParenthesis w then took d (core_opened n d)
+      else if may_lack n && is_mark mark.OpenBracket w then took d (up d ∷ up d ∷ []) else None
 
   -- what a comma parts, or what closes it
   abbrev pub more_parameters : Option Plan
@@ -182,7 +185,7 @@ module _ (known : Bool) (w : Word) where
       if is_mark mark.CloseParenthesis w then took 0 (up 0 ∷ [])
       else if is_key key.Void w then took 0 (up 0 ∷ up 0 ∷ [])
       else if begins_base false w then took 0 (up 0 ∷ up 1 ∷ up 0 ∷ up 0 ∷ [])
-      else declarator naming.May 1 (up 0 ∷ up 0 ∷ [])
+      else ahead (declarator naming.May 1) (up 0 ∷ up 0 ∷ [])
 
   abbrev pub parameters : Option Plan
   parameters =
@@ -193,14 +196,16 @@ module _ (known : Bool) (w : Word) where
   behind_void =
       if is_mark mark.CloseParenthesis w then took 0 []
       else if is_key key.Const w then took 0 (up 0 ∷ up 1 ∷ up 0 ∷ [])
-      else or_else (declarator naming.May 1 (up 0 ∷ [])) more_parameters
+      else or_else (ahead (declarator naming.May 1) (up 0 ∷ [])) more_parameters
 
   abbrev pub count : Option Plan
-  count = if is_mark mark.CloseBracket w then took 0 [] else operand mode.Cond 0 (up 0 ∷ [])
+  count =
+      if is_mark mark.CloseBracket w then took 0 [] else ahead (operand mode.Cond 0) (up 0 ∷ [])
 
   -- each entry has a declarator, which counts
   abbrev pub entries : Option Plan
-  entries = if is_mark mark.Semicolon w then took 0 [] else declarator naming.Must 1 (up 0 ∷ [])
+  entries =
+      if is_mark mark.Semicolon w then took 0 [] else ahead (declarator naming.Must 1) (up 0 ∷ [])
 
   abbrev pub more_entries : Option Plan
   more_entries = if is_mark mark.Comma w then took 0 (up 1 ∷ up 0 ∷ []) else took 0 []
@@ -209,37 +214,34 @@ module _ (known : Bool) (w : Word) where
   entry = if is_mark mark.Equal w then took 0 (up 0 ∷ up 0 ∷ []) else more_entries
 
   -- an initialiser counts
-  abbrev pub initial : List Step → Option Plan
-  initial later =
-      if is_mark mark.OpenBrace w then took 1 (up 1 ∷ up 1 ∷ later) else operand mode.Assign 1 later
+  abbrev pub initial : Option Plan
+  initial = if is_mark mark.OpenBrace w then took 1 (up 1 ∷ up 1 ∷ []) else operand mode.Assign 1
 
   -- A statement counts, and an expression in it, which is an expr; so does a block beside its statement.
 
-  abbrev pub statement_key : List Step → Keyword → Option Plan
-  statement_key later key.If = took 1 (up 1 ∷ up 2 ∷ up 2 ∷ up 1 ∷ up 1 ∷ up 1 ∷ later)
-  statement_key later key.While = took 1 (up 1 ∷ up 2 ∷ up 2 ∷ up 1 ∷ up 1 ∷ later)
-  statement_key later key.Do = took 1 (up 1 ∷ up 1 ∷ up 1 ∷ up 2 ∷ up 2 ∷ up 1 ∷ up 1 ∷ later)
-  statement_key later key.For =
-      took 1 (up 1 ∷ up 2 ∷ up 1 ∷ up 2 ∷ up 1 ∷ up 2 ∷ up 1 ∷ up 1 ∷ later)
-  statement_key later key.Switch =
-      took 1 (up 1 ∷ up 2 ∷ up 2 ∷ up 1 ∷ up 1 ∷ up 1 ∷ up 1 ∷ later)
-  statement_key later key.Break = took 1 (up 1 ∷ later)
-  statement_key later key.Continue = took 1 (up 1 ∷ later)
-  statement_key later key.Return = took 1 (up 2 ∷ up 1 ∷ later)
-  statement_key later k = None
+  abbrev pub statement_key : Keyword → Option Plan
+  statement_key key.If = took 1 (up 1 ∷ up 2 ∷ up 2 ∷ up 1 ∷ up 1 ∷ up 1 ∷ [])
+  statement_key key.While = took 1 (up 1 ∷ up 2 ∷ up 2 ∷ up 1 ∷ up 1 ∷ [])
+  statement_key key.Do = took 1 (up 1 ∷ up 1 ∷ up 1 ∷ up 2 ∷ up 2 ∷ up 1 ∷ up 1 ∷ [])
+  statement_key key.For = took 1 (up 1 ∷ up 2 ∷ up 1 ∷ up 2 ∷ up 1 ∷ up 2 ∷ up 1 ∷ up 1 ∷ [])
+  statement_key key.Switch = took 1 (up 1 ∷ up 2 ∷ up 2 ∷ up 1 ∷ up 1 ∷ up 1 ∷ up 1 ∷ [])
+  statement_key key.Break = took 1 (up 1 ∷ [])
+  statement_key key.Continue = took 1 (up 1 ∷ [])
+  statement_key key.Return = took 1 (up 2 ∷ up 1 ∷ [])
+  statement_key k = None
 
-  abbrev pub statement_word : List Step → Word → Option Plan
-  statement_word later (word.Key k) = statement_key later k
-  statement_word later v =
-      if is_mark mark.OpenBrace w then took 2 (up 2 ∷ up 2 ∷ later)
-      else if is_mark mark.Semicolon w then took 1 later else None
+  abbrev pub statement_word : Word → Option Plan
+  statement_word (word.Key k) = statement_key k
+  statement_word v =
+      if is_mark mark.OpenBrace w then took 2 (up 2 ∷ up 2 ∷ [])
+      else if is_mark mark.Semicolon w then took 1 [] else None
 
-  abbrev pub expression : List Step → Option Plan
-  expression later =
-      if begins_operand w then operand mode.Assign 2 (up 2 ∷ up 1 ∷ later) else None
+  abbrev pub expression : Option Plan
+  expression =
+      if begins_operand w then ahead (operand mode.Assign 2) (up 2 ∷ up 1 ∷ []) else None
 
-  abbrev pub statement : List Step → Option Plan
-  statement later = or_else (statement_word later w) (expression later)
+  abbrev pub statement : Option Plan
+  statement = or_else (statement_word w) expression
 
   -- where nothing may come but an item, or the end of a function's block
   abbrev pub item : Option Plan
@@ -250,13 +252,13 @@ module _ (known : Bool) (w : Word) where
   -- What a part does with the word; `None` where it is left out.
   abbrev pub plan : Symbol → Option Plan
   plan (Must v) = took 0 []
-  plan (Operand m) = operand m 0 []
+  plan (Operand m) = operand m 0
   plan (Open m) = opened m
   plan Texts = if is w word.Text then took 0 (up 0 ∷ []) else None
   plan Suffixes = suffix w
   plan (Behind u) = operators u
   plan Commas = if is_mark mark.Comma w then took 0 (up 0 ∷ up 0 ∷ []) else None
-  plan Optional = if begins_operand w then operand mode.Assign 0 (up 0 ∷ []) else None
+  plan Optional = if begins_operand w then ahead (operand mode.Assign 0) (up 0 ∷ []) else None
   plan Base = took 0 (up 0 ∷ [])
   plan (Kind k) = if is_kind (kinds_of k w) then took 0 (up 0 ∷ []) else None
   plan Consts = if is_key key.Const w then took 0 (up 0 ∷ []) else None
@@ -269,11 +271,12 @@ module _ (known : Bool) (w : Word) where
   plan MoreDeclarators = if is_mark mark.Comma w then took 0 (up 1 ∷ up 0 ∷ []) else took 0 []
   plan ConstantValue = if is_mark mark.Equal w then took 0 (up 0 ∷ []) else None
   plan Constants = if is_mark mark.Comma w then took 0 (up 0 ∷ up 0 ∷ up 0 ∷ []) else took 0 []
-  plan (Declarator n) = declarator n 0 []
-  plan (Pointer n) = if is_key key.Const w then took 0 (up 0 ∷ []) else declarator n 0 []
+  plan (Declarator n) = declarator n 0
+  plan (Pointer n) = if is_key key.Const w then took 0 (up 0 ∷ []) else declarator n 0
   plan Nameless = nameless
   plan Brackets =
-      if is_mark mark.OpenBracket w || is_mark mark.OpenParenthesis w then took 0 (up 0 ∷ up 0 ∷ []) else None
+      if is_mark mark.OpenBracket w || is_mark mark.OpenParenthesis w then took 0 (up 0 ∷ up 0 ∷ [])
+      else None
   plan Counts = if is_mark mark.OpenBracket w then took 0 (up 0 ∷ up 0 ∷ []) else None
   plan Count = count
   plan Parameters = parameters
@@ -282,18 +285,18 @@ module _ (known : Bool) (w : Word) where
   plan Entries = entries
   plan Entry = entry
   plan MoreEntries = more_entries
-  plan Initial = initial []
+  plan Initial = initial
   plan MoreInitials = if is_mark mark.Comma w then took 0 (up 0 ∷ []) else took 0 []
-  plan NextInitial = if is_mark mark.CloseBrace w then took 0 [] else initial (up 0 ∷ [])
+  plan NextInitial = if is_mark mark.CloseBrace w then took 0 [] else ahead initial (up 0 ∷ [])
   plan FileEntries = entries
   plan FirstEntry = if is_mark mark.OpenBrace w then took 1 (up 1 ∷ []) else entry
   plan EndTypedef = took 0 []
   plan Body =
       if is_key key.Static w || begins_base known w then took 0 (up 0 ∷ up 0 ∷ up 0 ∷ [])
-      else statement (up 0 ∷ [])
-  plan Statements = statement (up 0 ∷ [])
-  plan Statement = statement []
+      else ahead statement (up 0 ∷ [])
+  plan Statements = ahead statement (up 0 ∷ [])
+  plan Statement = statement
   plan Else = if is_key key.Else w then took 0 (up 0 ∷ []) else None
   plan Cases =
       if is_key key.Case w then took 0 (up 0 ∷ up 0 ∷ up 0 ∷ [])
-      else if is_key key.Default w then took 0 (up 0 ∷ up 0 ∷ []) else statement (up 0 ∷ [])
+      else if is_key key.Default w then took 0 (up 0 ∷ up 0 ∷ []) else ahead statement (up 0 ∷ [])
