@@ -4,3 +4,5 @@ pub mod Plans
 pub mod Levels
 -- small texts, and texts with many parentheses
 pub mod Worked
+-- what the code does
+pub mod inside

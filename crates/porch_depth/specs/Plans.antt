@@ -122,7 +122,48 @@ abbrev pub core_opened : Naming → ℕ → List Step
 core_opened naming.May d = up d ∷ []
 core_opened n d = up (d + 1) ∷ up d ∷ up d ∷ []
 
-module _ (known : Bool) (w : Word) where
+abbrev pub open_type : Mode → Option Plan
+open_type m = took (opening m) (up (opening m) ∷ up (opening m) ∷ up (opening m) ∷ behind_type m)
+
+-- The parenthesis behind `sizeof` shows only behind it that it begins a unary.
+abbrev pub late : Mode → Option Plan → Option Plan
+late mode.Size p = raised p
+late m p = p
+
+-- The expression in brackets is an expr; the arguments of a call are none.
+abbrev pub suffix_mark : Mark → Option Plan
+suffix_mark mark.OpenBracket = took 0 (up 1 ∷ up 1 ∷ up 0 ∷ up 0 ∷ [])
+suffix_mark mark.OpenParenthesis = took 0 (up 0 ∷ up 0 ∷ up 0 ∷ [])
+suffix_mark mark.Dot = took 0 (up 0 ∷ up 0 ∷ [])
+suffix_mark mark.Arrow = took 0 (up 0 ∷ up 0 ∷ [])
+suffix_mark mark.PlusPlus = took 0 (up 0 ∷ [])
+suffix_mark mark.MinusMinus = took 0 (up 0 ∷ [])
+suffix_mark m = None
+
+abbrev pub suffix : Word → Option Plan
+suffix (word.Mark m) = suffix_mark m
+suffix v = None
+
+-- A statement counts, and an expression in it, which is an expr; so does a block beside its statement.
+
+abbrev pub statement_key : Keyword → Option Plan
+statement_key key.If = took 1 (up 1 ∷ up 2 ∷ up 2 ∷ up 1 ∷ up 1 ∷ up 1 ∷ [])
+statement_key key.While = took 1 (up 1 ∷ up 2 ∷ up 2 ∷ up 1 ∷ up 1 ∷ [])
+statement_key key.Do = took 1 (up 1 ∷ up 1 ∷ up 1 ∷ up 2 ∷ up 2 ∷ up 1 ∷ up 1 ∷ [])
+statement_key key.For = took 1 (up 1 ∷ up 2 ∷ up 1 ∷ up 2 ∷ up 1 ∷ up 2 ∷ up 1 ∷ up 1 ∷ [])
+statement_key key.Switch = took 1 (up 1 ∷ up 2 ∷ up 2 ∷ up 1 ∷ up 1 ∷ up 1 ∷ up 1 ∷ [])
+statement_key key.Break = took 1 (up 1 ∷ [])
+statement_key key.Continue = took 1 (up 1 ∷ [])
+statement_key key.Return = took 1 (up 2 ∷ up 1 ∷ [])
+statement_key k = None
+
+abbrev pub statement_word : Word → Option Plan
+statement_word (word.Key k) = statement_key k
+statement_word w =
+    if is_mark mark.OpenBrace w then took 2 (up 2 ∷ up 2 ∷ [])
+    else if is_mark mark.Semicolon w then took 1 [] else None
+
+module _ (w : Word) where
   -- An operand is a unary or a cast, which counts.
   abbrev pub unary : Mode → ℕ → Option Plan
   unary m d =
@@ -132,35 +173,12 @@ module _ (known : Bool) (w : Word) where
   abbrev pub operand : Mode → ℕ → Option Plan
   operand m d = if is_mark mark.OpenParenthesis w then took (d + opening m) (up d ∷ []) else unary m d
 
-  -- Behind a parenthesis. An expression in it is an expr in a unary, both of which count; that the
-  -- parenthesis behind `sizeof` begins a unary shows only here.
-
-  abbrev pub open_type : Mode → Option Plan
-  open_type m = took (opening m) (up (opening m) ∷ up (opening m) ∷ up (opening m) ∷ behind_type m)
-
+  -- An expression in parentheses is an expr in a unary, both of which count.
   abbrev pub nested : Mode → Option Plan
   nested m = ahead (operand mode.Assign 2) (up 2 ∷ up 1 ∷ up 1 ∷ rest_kept m)
 
-  abbrev pub late : Mode → Option Plan → Option Plan
-  late mode.Size p = raised p
-  late m p = p
-
-  abbrev pub opened : Mode → Option Plan
-  opened m = if takes_type m && begins_base known w then open_type m else late m (nested m)
-
-  -- The expression in brackets is an expr; the arguments of a call are none.
-  abbrev pub suffix_mark : Mark → Option Plan
-  suffix_mark mark.OpenBracket = took 0 (up 1 ∷ up 1 ∷ up 0 ∷ up 0 ∷ [])
-  suffix_mark mark.OpenParenthesis = took 0 (up 0 ∷ up 0 ∷ up 0 ∷ [])
-  suffix_mark mark.Dot = took 0 (up 0 ∷ up 0 ∷ [])
-  suffix_mark mark.Arrow = took 0 (up 0 ∷ up 0 ∷ [])
-  suffix_mark mark.PlusPlus = took 0 (up 0 ∷ [])
-  suffix_mark mark.MinusMinus = took 0 (up 0 ∷ [])
-  suffix_mark m = None
-
-  abbrev pub suffix : Word → Option Plan
-  suffix (word.Mark m) = suffix_mark m
-  suffix v = None
+  abbrev pub opened : Bool → Mode → Option Plan
+  opened known m = if takes_type m && begins_base known w then open_type m else late m (nested m)
 
   -- `?` and an operator that assigns count from the first token of the operand that they are behind.
   abbrev pub operators : Bool → Option Plan
@@ -217,25 +235,6 @@ module _ (known : Bool) (w : Word) where
   abbrev pub initial : Option Plan
   initial = if is_mark mark.OpenBrace w then took 1 (up 1 ∷ up 1 ∷ []) else operand mode.Assign 1
 
-  -- A statement counts, and an expression in it, which is an expr; so does a block beside its statement.
-
-  abbrev pub statement_key : Keyword → Option Plan
-  statement_key key.If = took 1 (up 1 ∷ up 2 ∷ up 2 ∷ up 1 ∷ up 1 ∷ up 1 ∷ [])
-  statement_key key.While = took 1 (up 1 ∷ up 2 ∷ up 2 ∷ up 1 ∷ up 1 ∷ [])
-  statement_key key.Do = took 1 (up 1 ∷ up 1 ∷ up 1 ∷ up 2 ∷ up 2 ∷ up 1 ∷ up 1 ∷ [])
-  statement_key key.For = took 1 (up 1 ∷ up 2 ∷ up 1 ∷ up 2 ∷ up 1 ∷ up 2 ∷ up 1 ∷ up 1 ∷ [])
-  statement_key key.Switch = took 1 (up 1 ∷ up 2 ∷ up 2 ∷ up 1 ∷ up 1 ∷ up 1 ∷ up 1 ∷ [])
-  statement_key key.Break = took 1 (up 1 ∷ [])
-  statement_key key.Continue = took 1 (up 1 ∷ [])
-  statement_key key.Return = took 1 (up 2 ∷ up 1 ∷ [])
-  statement_key k = None
-
-  abbrev pub statement_word : Word → Option Plan
-  statement_word (word.Key k) = statement_key k
-  statement_word v =
-      if is_mark mark.OpenBrace w then took 2 (up 2 ∷ up 2 ∷ [])
-      else if is_mark mark.Semicolon w then took 1 [] else None
-
   abbrev pub expression : Option Plan
   expression =
       if begins_operand w then ahead (operand mode.Assign 2) (up 2 ∷ up 1 ∷ []) else None
@@ -250,53 +249,53 @@ module _ (known : Bool) (w : Word) where
       else if is_key key.Typedef w then took 0 (up 0 ∷ up 1 ∷ up 0 ∷ []) else took 0 (up 0 ∷ up 0 ∷ [])
 
   -- What a part does with the word; `None` where it is left out.
-  abbrev pub plan : Symbol → Option Plan
-  plan (Must v) = took 0 []
-  plan (Operand m) = operand m 0
-  plan (Open m) = opened m
-  plan Texts = if is w word.Text then took 0 (up 0 ∷ []) else None
-  plan Suffixes = suffix w
-  plan (Behind u) = operators u
-  plan Commas = if is_mark mark.Comma w then took 0 (up 0 ∷ up 0 ∷ []) else None
-  plan Optional = if begins_operand w then ahead (operand mode.Assign 0) (up 0 ∷ []) else None
-  plan Base = took 0 (up 0 ∷ [])
-  plan (Kind k) = if is_kind (kinds_of k w) then took 0 (up 0 ∷ []) else None
-  plan Consts = if is_key key.Const w then took 0 (up 0 ∷ []) else None
-  plan (Tag s) = if is_mark mark.OpenBrace w then contents s else took 0 (up 0 ∷ [])
-  plan (TagBody s) =
+  abbrev pub plan : Bool → Symbol → Option Plan
+  plan known (Must v) = took 0 []
+  plan known (Operand m) = operand m 0
+  plan known (Open m) = opened known m
+  plan known Texts = if is w word.Text then took 0 (up 0 ∷ []) else None
+  plan known Suffixes = suffix w
+  plan known (Behind u) = operators u
+  plan known Commas = if is_mark mark.Comma w then took 0 (up 0 ∷ up 0 ∷ []) else None
+  plan known Optional = if begins_operand w then ahead (operand mode.Assign 0) (up 0 ∷ []) else None
+  plan known Base = took 0 (up 0 ∷ [])
+  plan known (Kind k) = if is_kind (kinds_of k w) then took 0 (up 0 ∷ []) else None
+  plan known Consts = if is_key key.Const w then took 0 (up 0 ∷ []) else None
+  plan known (Tag s) = if is_mark mark.OpenBrace w then contents s else took 0 (up 0 ∷ [])
+  plan known (TagBody s) =
       if is_mark mark.OpenBrace w then contents s
       else if is_key key.Const w then took 0 (up 0 ∷ []) else None
-  plan Fields =
+  plan known Fields =
       if is_mark mark.CloseBrace w then took 0 [] else took 1 (up 1 ∷ up 2 ∷ up 1 ∷ up 0 ∷ [])
-  plan MoreDeclarators = if is_mark mark.Comma w then took 0 (up 1 ∷ up 0 ∷ []) else took 0 []
-  plan ConstantValue = if is_mark mark.Equal w then took 0 (up 0 ∷ []) else None
-  plan Constants = if is_mark mark.Comma w then took 0 (up 0 ∷ up 0 ∷ up 0 ∷ []) else took 0 []
-  plan (Declarator n) = declarator n 0
-  plan (Pointer n) = if is_key key.Const w then took 0 (up 0 ∷ []) else declarator n 0
-  plan Nameless = nameless
-  plan Brackets =
+  plan known MoreDeclarators = if is_mark mark.Comma w then took 0 (up 1 ∷ up 0 ∷ []) else took 0 []
+  plan known ConstantValue = if is_mark mark.Equal w then took 0 (up 0 ∷ []) else None
+  plan known Constants = if is_mark mark.Comma w then took 0 (up 0 ∷ up 0 ∷ up 0 ∷ []) else took 0 []
+  plan known (Declarator n) = declarator n 0
+  plan known (Pointer n) = if is_key key.Const w then took 0 (up 0 ∷ []) else declarator n 0
+  plan known Nameless = nameless
+  plan known Brackets =
       if is_mark mark.OpenBracket w || is_mark mark.OpenParenthesis w then took 0 (up 0 ∷ up 0 ∷ [])
       else None
-  plan Counts = if is_mark mark.OpenBracket w then took 0 (up 0 ∷ up 0 ∷ []) else None
-  plan Count = count
-  plan Parameters = parameters
-  plan Void = behind_void
-  plan MoreParameters = more_parameters
-  plan Entries = entries
-  plan Entry = entry
-  plan MoreEntries = more_entries
-  plan Initial = initial
-  plan MoreInitials = if is_mark mark.Comma w then took 0 (up 0 ∷ []) else took 0 []
-  plan NextInitial = if is_mark mark.CloseBrace w then took 0 [] else ahead initial (up 0 ∷ [])
-  plan FileEntries = entries
-  plan FirstEntry = if is_mark mark.OpenBrace w then took 1 (up 1 ∷ []) else entry
-  plan EndTypedef = took 0 []
-  plan Body =
+  plan known Counts = if is_mark mark.OpenBracket w then took 0 (up 0 ∷ up 0 ∷ []) else None
+  plan known Count = count
+  plan known Parameters = parameters
+  plan known Void = behind_void
+  plan known MoreParameters = more_parameters
+  plan known Entries = entries
+  plan known Entry = entry
+  plan known MoreEntries = more_entries
+  plan known Initial = initial
+  plan known MoreInitials = if is_mark mark.Comma w then took 0 (up 0 ∷ []) else took 0 []
+  plan known NextInitial = if is_mark mark.CloseBrace w then took 0 [] else ahead initial (up 0 ∷ [])
+  plan known FileEntries = entries
+  plan known FirstEntry = if is_mark mark.OpenBrace w then took 1 (up 1 ∷ []) else entry
+  plan known EndTypedef = took 0 []
+  plan known Body =
       if is_key key.Static w || begins_base known w then took 0 (up 0 ∷ up 0 ∷ up 0 ∷ [])
       else ahead statement (up 0 ∷ [])
-  plan Statements = ahead statement (up 0 ∷ [])
-  plan Statement = statement
-  plan Else = if is_key key.Else w then took 0 (up 0 ∷ []) else None
-  plan Cases =
+  plan known Statements = ahead statement (up 0 ∷ [])
+  plan known Statement = statement
+  plan known Else = if is_key key.Else w then took 0 (up 0 ∷ []) else None
+  plan known Cases =
       if is_key key.Case w then took 0 (up 0 ∷ up 0 ∷ up 0 ∷ [])
       else if is_key key.Default w then took 0 (up 0 ∷ up 0 ∷ []) else ahead statement (up 0 ∷ [])

@@ -6,6 +6,12 @@
 #![tactic(auto)]
 
 pub mod level;
+mod take;
+mod expressions;
+mod statements;
+mod parts;
+mod read;
+mod declarations;
 pub mod worked;
 
 pub use level::{Level, Reading, Step, Taken};

@@ -18,6 +18,7 @@ pub mod worked;
 pub mod wrong;
 
 pub use along::first_wrong;
+pub use step::{assigning as is_assigning, infix as is_infix, is as is_word, kinds_with};
 pub use symbol::{Kinds, Mode, Naming, Symbol};
 pub use token_walk::TokenWalk;
 pub use wrong::{WalkFault, WrongToken};
