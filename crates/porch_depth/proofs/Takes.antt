@@ -5,9 +5,10 @@ use Rattle.std.proofs.lemmas.List.{reverse-append}
 use Rattle.porch_depth.specs.declared.level.Level.{Level}
 use Rattle.porch_depth.specs.declared.level.Step.{Step}
 use Rattle.porch_depth.specs.declared.take.Here.{Here}
-use Rattle.porch_depth.specs.inside.Takes.{kept, with_steps}
+use Rattle.porch_depth.specs.inside.Takes.{with_steps}
+use Rattle.porch_depth.specs.Levels.{placed}
 
-map_turned : (h : Here) (ss above : List Step) → reverse_aux (map (kept h) ss) (map (kept h) above) ≡ map (kept h) (reverse_aux ss above)
+map_turned : (h : Here) (ss above : List Step) → reverse_aux (map (placed h.level h.token) ss) (map (placed h.level h.token) above) ≡ map (placed h.level h.token) (reverse_aux ss above)
 map_turned h [] above = refl
 map_turned h (s ∷ ss) above = map_turned h ss (s ∷ above)
 
@@ -17,10 +18,10 @@ take_all (suc n) [] h = refl
 take_all zero (s ∷ ss) h = absurd (omega (arith, h))
 take_all (suc n) (s ∷ ss) h = ap (λ q. s ∷ q) (take_all n ss (omega (arith, h)))
 
-pub put_on : (h : Here) (ss : List Step) (old new : List Level) (n : ℕ) → new ≡ old ++ map (kept h) (take n ss) → length ss ≤ n
+pub put_on : (h : Here) (ss : List Step) (old new : List Level) (n : ℕ) → new ≡ old ++ map (placed h.level h.token) (take n ss) → length ss ≤ n
     → reverse new ≡ with_steps h (reverse ss) (reverse old)
 put_on h ss old new n e l =
-    ap reverse (e ∙ ap (λ q. old ++ map (kept h) q) (take_all n ss l)) ∙ reverse-append old (map (kept h) ss)
+    ap reverse (e ∙ ap (λ q. old ++ map (placed h.level h.token) q) (take_all n ss l)) ∙ reverse-append old (map (placed h.level h.token) ss)
     ∙ ap (λ q. q ++ reverse old) (map_turned h ss [])
 
 -- the last of a list is the first in reverse

@@ -52,7 +52,7 @@ read_or l i (Some p) ls other = read_by l i p ls
 
 -- Token `i` is read: the first part that doesn't leave it out takes it.
 abbrev pub read : Bool → ℕ → Word → List Symbol → List Level → Read
-read known i w [] ls = read_or GROUND i (item w) [] (record { reading = record { uses = 0; back = 0 }; levels = [] })
+read known i w [] ls = read_by GROUND i (item w) []
 read known i w (s ∷ ss) ls = read_or (top ls) i (plan w known s) (under ls) (read known i w ss (under ls))
 
 abbrev pub readings_from : Option Stage → (Stage → List Reading) → List Reading

@@ -27,8 +27,11 @@ pub record Plan : Type 0 where
   pub taken : Taken
   pub steps : List Step
 
+abbrev pub lies : ℕ → List Step → Plan
+lies uses steps = record { taken = record { uses = uses; raises = false }; steps = steps }
+
 abbrev pub took : ℕ → List Step → Option Plan
-took uses steps = Some (record { taken = record { uses = uses; raises = false }; steps = steps })
+took uses steps = Some (lies uses steps)
 
 -- The token puts what is before it one use deeper, from where this part's front stands.
 abbrev pub raised : Option Plan → Option Plan
@@ -243,10 +246,10 @@ module _ (w : Word) where
   statement = or_else (statement_word w) expression
 
   -- where nothing may come but an item, or the end of a function's block
-  abbrev pub item : Option Plan
+  abbrev pub item : Plan
   item =
-      if is_mark mark.CloseBrace w then took 1 []
-      else if is_key key.Typedef w then took 0 (up 0 ∷ up 1 ∷ up 0 ∷ []) else took 0 (up 0 ∷ up 0 ∷ [])
+      if is_mark mark.CloseBrace w then lies 1 []
+      else if is_key key.Typedef w then lies 0 (up 0 ∷ up 1 ∷ up 0 ∷ []) else lies 0 (up 0 ∷ up 0 ∷ [])
 
   -- What a part does with the word; `None` where it is left out.
   abbrev pub plan : Bool → Symbol → Option Plan

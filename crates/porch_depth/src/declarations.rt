@@ -65,7 +65,7 @@ fn put_core(
     levels: &mut Vec<Level>,
     here: Here,
     naming: Naming,
-    uses: usize,
+    uses: u32,
 ) -> Result<(), AllocError>
     requires { uses ≤ 1 }
     ensures { IfOk result (λ _. reverse levels.new.items
@@ -87,7 +87,7 @@ pub(crate) fn take_declarator(
     here: Here,
     later: &[Step],
     naming: Naming,
-    uses: usize,
+    uses: u32,
     word: Word,
 ) -> Result<Option<Taken>, AllocError>
     requires { uses ≤ 1 }

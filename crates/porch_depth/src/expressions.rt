@@ -63,12 +63,7 @@ pub(crate) fn begins_base(known: bool, word: Word) -> bool
     }
 }
 
-fn put_rest(
-    levels: &mut Vec<Level>,
-    here: Here,
-    mode: Mode,
-    uses: usize,
-) -> Result<(), AllocError>
+fn put_rest(levels: &mut Vec<Level>, here: Here, mode: Mode, uses: u32) -> Result<(), AllocError>
     ensures { IfOk result (λ _. reverse levels.new.items
         ≡ with_steps here (rest mode uses) (reverse levels.old.items)) }
 {
@@ -88,7 +83,7 @@ fn put_rest_kept(levels: &mut Vec<Level>, here: Here, mode: Mode) -> Result<(), 
     }
 }
 
-fn opening(mode: Mode) -> usize
+fn opening(mode: Mode) -> u32
     ensures exact { result ≡ opening mode }
     ensures small { result ≤ 1 }
 {
@@ -103,7 +98,7 @@ fn take_unary(
     levels: &mut Vec<Level>,
     here: Here,
     mode: Mode,
-    uses: usize,
+    uses: u32,
     word: Word,
 ) -> Result<Option<Taken>, AllocError>
     requires { uses ≤ 2 }
@@ -112,7 +107,12 @@ fn take_unary(
 {
     put_rest(levels, here, mode, uses)?;
     if is_word(word, Word::Text) {
-        take(levels, here, uses + 1, &[Step::Up(uses + 1), Step::Up(uses + 1)])
+        take(
+            levels,
+            here,
+            uses + 1,
+            &[Step::Up(uses + 1), Step::Up(uses + 1)],
+        )
     } else {
         take(levels, here, uses + 1, &[Step::Up(uses + 1)])
     }
@@ -124,7 +124,7 @@ pub(crate) fn take_operand(
     here: Here,
     later: &[Step],
     mode: Mode,
-    uses: usize,
+    uses: u32,
     word: Word,
 ) -> Result<Option<Taken>, AllocError>
     requires { uses ≤ 2 }

@@ -4,15 +4,15 @@
 /// a use counts that only this part shows.
 #[derive(Clone, Copy, Debug)]
 pub struct Level {
-    pub uses: usize,
-    pub start: usize,
+    pub uses: u32,
+    pub start: u32,
 }
 
 /// Where a part that may come behind a token lies.
 #[derive(Clone, Copy, Debug)]
 pub enum Step {
     /// So many uses deeper than the part that takes the token. It begins with this token or later.
-    Up(usize),
+    Up(u32),
     /// At the level of that part.
     Keep,
 }
@@ -21,7 +21,7 @@ pub enum Step {
 /// it one use deeper.
 #[derive(Clone, Copy, Debug)]
 pub struct Taken {
-    pub uses: usize,
+    pub uses: u32,
     pub raises: bool,
 }
 
@@ -29,6 +29,6 @@ pub struct Taken {
 /// lie one use deeper.
 #[derive(Clone, Copy, Debug)]
 pub struct Reading {
-    pub uses: usize,
-    pub back: usize,
+    pub uses: u32,
+    pub back: u32,
 }

@@ -5,13 +5,13 @@
 //! uses each token is shown to lie in, and `worked` what that is in some texts.
 #![tactic(auto)]
 
-pub mod level;
-mod take;
+mod declarations;
 mod expressions;
-mod statements;
+pub mod level;
 mod parts;
 mod read;
-mod declarations;
+mod statements;
+mod take;
 pub mod worked;
 
 pub use level::{Level, Reading, Step, Taken};

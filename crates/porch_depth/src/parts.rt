@@ -1,11 +1,11 @@
 //! What each part that may come does with a word to the levels.
 
-ghost use Rattle.std.specs.Prelude.{◌≡◌, ◌||◌, [], ◌∷◌, reverse, IfOk, false, if◌then◌else◌};
+ghost use Rattle.std.specs.Prelude.{◌≡◌, ◌||◌, [], ◌∷◌, reverse, IfOk, Some, false, if◌then◌else◌};
 ghost use Rattle.porch_tree.specs.declared.word.Mark.TheVariants as mark;
 ghost use Rattle.porch_walk.specs.declared.symbol.Symbol.TheVariants as symbol;
 ghost use Rattle.porch_walk.specs.Walk.{is_mark, kinds_of};
 ghost use Rattle.porch_depth.specs.Plans.{took, item, plan, is_kind};
-ghost use Rattle.porch_depth.specs.inside.Takes.{TookBy, goes_on};
+ghost use Rattle.porch_depth.specs.inside.Takes.{TookBy, goes_on, outcome};
 
 use crate::declarations::{
     take_behind_void, take_contents, take_count, take_declarator, take_entries, take_entry,
@@ -16,7 +16,7 @@ use crate::expressions::{
 };
 use crate::level::{Level, Reading, Step, Taken};
 use crate::statements::take_statement;
-use crate::take::{Here, take, take_if};
+use crate::take::{Here, lie, take, take_if};
 use porch_tree::{Keyword, Mark, TagSort, Word};
 use porch_walk::{Kinds, Mode, Naming, Symbol, is_word, kinds_with};
 use std::alloc::AllocError;
@@ -55,11 +55,7 @@ fn take_tag_body(
     }
 }
 
-fn take_fields(
-    levels: &mut Vec<Level>,
-    here: Here,
-    word: Word,
-) -> Result<Option<Taken>, AllocError>
+fn take_fields(levels: &mut Vec<Level>, here: Here, word: Word) -> Result<Option<Taken>, AllocError>
     ensures { IfOk result (λ t. TookBy here (plan word false symbol.Fields) t
         levels.old.items levels.new.items) }
 {
@@ -170,11 +166,7 @@ fn take_body(
     }
 }
 
-fn take_cases(
-    levels: &mut Vec<Level>,
-    here: Here,
-    word: Word,
-) -> Result<Option<Taken>, AllocError>
+fn take_cases(levels: &mut Vec<Level>, here: Here, word: Word) -> Result<Option<Taken>, AllocError>
     ensures { IfOk result (λ t. TookBy here (plan word false symbol.Cases) t
         levels.old.items levels.new.items) }
 {
@@ -221,11 +213,7 @@ pub(crate) fn take_symbol(
         Symbol::Suffixes => take_suffix(levels, here, word),
         Symbol::Behind(unary) => take_operator(levels, here, unary, word),
         Symbol::Optional => take_arguments(levels, here, word),
-        Symbol::Texts
-        | Symbol::Kind(_)
-        | Symbol::Consts
-        | Symbol::ConstantValue
-        | Symbol::Else => {
+        Symbol::Texts | Symbol::Kind(_) | Symbol::Consts | Symbol::ConstantValue | Symbol::Else => {
             let test = goes_on(symbol, word);
             take_if(levels, here, test, 0, &[Step::Up(0)])
         }
@@ -236,9 +224,7 @@ pub(crate) fn take_symbol(
         Symbol::Tag(sort) => take_tag(levels, here, sort, word),
         Symbol::TagBody(sort) => take_tag_body(levels, here, sort, word),
         Symbol::Fields => take_fields(levels, here, word),
-        Symbol::MoreDeclarators => {
-            take_parted(levels, here, word, &[Step::Up(0), Step::Up(1)])
-        }
+        Symbol::MoreDeclarators => { take_parted(levels, here, word, &[Step::Up(0), Step::Up(1)]) }
         Symbol::Constants => {
             take_parted(levels, here, word, &[Step::Up(0), Step::Up(0), Step::Up(0)])
         }
@@ -285,14 +271,15 @@ pub(crate) fn take_item(
     levels: &mut Vec<Level>,
     here: Here,
     word: Word,
-) -> Result<Option<Taken>, AllocError>
-    ensures { IfOk result (λ t. TookBy here (item word) t levels.old.items levels.new.items) }
+) -> Result<Taken, AllocError>
+    ensures { IfOk result (λ t. Some (t, reverse levels.new.items)
+        ≡ outcome here (Some (item word)) (reverse levels.old.items)) }
 {
     if is_word(word, Word::Mark(Mark::CloseBrace)) {
-        take(levels, here, 1, &[])
+        lie(levels, here, 1, &[])
     } else if is_word(word, Word::Key(Keyword::Typedef)) {
-        take(levels, here, 0, &[Step::Up(0), Step::Up(1), Step::Up(0)])
+        lie(levels, here, 0, &[Step::Up(0), Step::Up(1), Step::Up(0)])
     } else {
-        take(levels, here, 0, &[Step::Up(0), Step::Up(0)])
+        lie(levels, here, 0, &[Step::Up(0), Step::Up(0)])
     }
 }

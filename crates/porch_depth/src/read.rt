@@ -1,13 +1,13 @@
 //! One token: how many uses it lies in, and the levels of the parts that may come behind it.
 
-ghost use Rattle.std.specs.Prelude.{◌≡◌, [], ◌∷◌, reverse, IfOk, Some};
-ghost use Rattle.porch_depth.specs.Levels.{GROUND, top, under};
+ghost use Rattle.std.specs.Prelude.{◌≡◌, ◌+◌, ◌-◌, [], ◌∷◌, reverse, IfOk, if◌then◌else◌};
+ghost use Rattle.porch_depth.specs.Levels.{GROUND, top, under, read, read_by};
 ghost use Rattle.porch_depth.specs.Plans.{item, plan};
-ghost use Rattle.porch_depth.specs.inside.Takes.{TookBy, Offered, here, reading_kept, kept_read, shown_by};
+ghost use Rattle.porch_depth.specs.inside.Takes.{TookBy, Offered, outcome, is_read};
 
 use crate::level::{Level, Reading, Taken};
 use crate::parts::{take_item, take_symbol};
-use crate::take::Here;
+use crate::take::{Here, more_uses};
 use porch_tree::Word;
 use porch_walk::Symbol;
 use std::alloc::AllocError;
@@ -26,18 +26,21 @@ fn next_level(levels: &mut Vec<Level>) -> Level
     }
 }
 
-fn show(here: Here, taken: Taken) -> Reading
-    ensures { result ≡ reading_kept here taken }
+fn show(here: Here, taken: Taken) -> Result<Reading, AllocError>
+    ensures { IfOk result (λ r. r ≡ record {
+      uses = here.level.uses + taken.uses;
+      back = if taken.raises then here.token - here.level.start else 0;
+    }) }
 {
     let back = if taken.raises {
         here.token.saturating_sub(here.level.start)
     } else {
         0
     };
-    Reading {
-        uses: here.level.uses.saturating_add(taken.uses),
+    Ok(Reading {
+        uses: more_uses(here.level.uses, taken.uses)?,
         back,
-    }
+    })
 }
 
 // what a part shows, if it takes the word
@@ -52,25 +55,23 @@ fn offer(
         (reverse levels.old.items) (reverse levels.new.items)) }
 {
     match take_symbol(levels, here, symbol, word, known)? {
-        Some(taken) => Ok(Some(show(here, taken))),
+        Some(taken) => Ok(Some(show(here, taken)?)),
         None => Ok(None),
     }
 }
 
 // where no part is left
-fn offer_item(
-    levels: &mut Vec<Level>,
-    token: usize,
-    word: Word,
-) -> Result<Option<Reading>, AllocError>
-    ensures { IfOk result (λ r. Offered (here GROUND token) (item word) r [] (reverse levels.new.items)) }
+fn read_item(levels: &mut Vec<Level>, token: u32, word: Word) -> Result<Reading, AllocError>
+    ensures { IfOk result (λ r. read_by GROUND token (item word) []
+        ≡ is_read r (reverse levels.new.items)) }
 {
     levels.clear();
-    let here = Here { level: GROUND, token };
-    match take_item(levels, here, word)? {
-        Some(taken) => Ok(Some(show(here, taken))),
-        None => Ok(None),
-    }
+    let here = Here {
+        level: GROUND,
+        token,
+    };
+    let taken = take_item(levels, here, word)?;
+    show(here, taken)
 }
 
 /// Reads one more token: the first part takes it that doesn't leave it out. The parts are those of the walk,
@@ -78,19 +79,19 @@ fn offer_item(
 pub(crate) fn read(
     levels: &mut Vec<Level>,
     parts: &[Symbol],
-    token: usize,
+    token: u32,
     word: Word,
     known: bool,
-) -> Result<Option<Reading>, AllocError>
-    ensures { IfOk result (λ r. kept_read known token word (reverse parts.now) (reverse levels.old.items)
-        ≡ shown_by r (reverse levels.new.items)) }
+) -> Result<Reading, AllocError>
+    ensures { IfOk result (λ r. read known token word (reverse parts.now) (reverse levels.old.items)
+        ≡ is_read r (reverse levels.new.items)) }
 {
     for left in (0..parts.len()).rev() {
         let level = next_level(levels);
         match offer(levels, Here { level, token }, parts[left], word, known)? {
-            Some(shown) => return Ok(Some(shown)),
+            Some(shown) => return Ok(shown),
             None => {}
         }
     }
-    offer_item(levels, token, word)
+    read_item(levels, token, word)
 }

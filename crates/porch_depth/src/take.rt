@@ -1,8 +1,9 @@
 //! What a token does to the levels of the parts that may come behind it.
 
-ghost use Rattle.std.specs.Prelude.{◌≡◌, ◌++◌, [], ◌∷◌, map, reverse, IfOk, if◌then◌else◌, None};
+ghost use Rattle.std.specs.Prelude.{◌≡◌, ◌+◌, ◌++◌, [], ◌∷◌, map, reverse, IfOk, if◌then◌else◌, Some, None};
+ghost use Rattle.porch_depth.specs.Levels.{placed};
 ghost use Rattle.porch_depth.specs.Plans.{ahead, took, Plan};
-ghost use Rattle.porch_depth.specs.inside.Takes.{kept, with_steps, TookBy};
+ghost use Rattle.porch_depth.specs.inside.Takes.{with_steps, outcome, TookBy};
 
 use crate::level::{Level, Step, Taken};
 use std::alloc::AllocError;
@@ -11,18 +12,28 @@ use std::alloc::AllocError;
 #[derive(Clone, Copy, Debug)]
 pub(crate) struct Here {
     pub(crate) level: Level,
-    pub(crate) token: usize,
+    pub(crate) token: u32,
 }
 
-fn place(here: Here, step: Step) -> Level
-    ensures { result ≡ kept here step }
+/// So many uses more. No text has as many uses as can't be counted: they would take more memory than there is.
+pub(crate) fn more_uses(uses: u32, more: u32) -> Result<u32, AllocError>
+    ensures { IfOk result (λ n. n ≡ uses + more) }
+{
+    match uses.checked_add(more) {
+        Some(sum) => Ok(sum),
+        None => Err(AllocError),
+    }
+}
+
+fn place(here: Here, step: Step) -> Result<Level, AllocError>
+    ensures { IfOk result (λ l. l ≡ placed here.level here.token step) }
 {
     match step {
-        Step::Up(uses) => Level {
-            uses: here.level.uses.saturating_add(uses),
+        Step::Up(more) => Ok(Level {
+            uses: more_uses(here.level.uses, more)?,
             start: here.token,
-        },
-        Step::Keep => here.level,
+        }),
+        Step::Keep => Ok(here.level),
     }
 }
 
@@ -32,26 +43,39 @@ pub(crate) fn put(levels: &mut Vec<Level>, here: Here, steps: &[Step]) -> Result
         ≡ with_steps here (reverse steps.now) (reverse levels.old.items)) }
 {
     for step in steps {
-        levels.push(place(here, *step))?;
+        levels.push(place(here, *step)?)?;
     }
     Ok(())
+}
+
+/// The token lies so many uses deeper, with these parts behind it, the next one last.
+pub(crate) fn lie(
+    levels: &mut Vec<Level>,
+    here: Here,
+    uses: u32,
+    steps: &[Step],
+) -> Result<Taken, AllocError>
+    ensures { IfOk result (λ t. Some (t, reverse levels.new.items)
+        ≡ outcome here (took uses (reverse steps.now)) (reverse levels.old.items)) }
+{
+    put(levels, here, steps)?;
+    Ok(Taken {
+        uses,
+        raises: false,
+    })
 }
 
 /// Takes the token so many uses deeper, with these parts behind it, the next one last.
 pub(crate) fn take(
     levels: &mut Vec<Level>,
     here: Here,
-    uses: usize,
+    uses: u32,
     steps: &[Step],
 ) -> Result<Option<Taken>, AllocError>
     ensures { IfOk result (λ t. TookBy here (took uses (reverse steps.now)) t
         levels.old.items levels.new.items) }
 {
-    put(levels, here, steps)?;
-    Ok(Some(Taken {
-        uses,
-        raises: false,
-    }))
+    Ok(Some(lie(levels, here, uses, steps)?))
 }
 
 /// The same, in front of further parts.
@@ -59,7 +83,7 @@ pub(crate) fn take_before(
     levels: &mut Vec<Level>,
     here: Here,
     later: &[Step],
-    uses: usize,
+    uses: u32,
     steps: &[Step],
 ) -> Result<Option<Taken>, AllocError>
     ensures { IfOk result (λ t. TookBy here (ahead (took uses (reverse steps.now)) (reverse later.now)) t
@@ -74,7 +98,7 @@ pub(crate) fn take_if(
     levels: &mut Vec<Level>,
     here: Here,
     test: bool,
-    uses: usize,
+    uses: u32,
     steps: &[Step],
 ) -> Result<Option<Taken>, AllocError>
     ensures { IfOk result (λ t. TookBy here (if test then took uses (reverse steps.now) else None) t

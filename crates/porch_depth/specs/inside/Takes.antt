@@ -10,20 +10,14 @@ use Rattle.porch_walk.specs.Walk.{is, is_mark, is_key, kinds_of}
 use Rattle.porch_depth.specs.declared.level.Level.{Level}
 use Rattle.porch_depth.specs.declared.level.Reading.{Reading}
 use Rattle.porch_depth.specs.declared.level.Step.{Step}
-use Rattle.porch_depth.specs.declared.level.Step.TheVariants.{Up, Keep}
 use Rattle.porch_depth.specs.declared.level.Taken.{Taken}
 use Rattle.porch_depth.specs.declared.take.Here.{Here}
-use Rattle.porch_depth.specs.Plans.{Plan, is_kind, item, plan}
-use Rattle.porch_depth.specs.Levels.{GROUND, top, under, level}
-
--- The count of uses stands still at its type's end.
-abbrev pub kept : Here → Step → Level
-kept h (Up n) = level (min (h.level.uses + n) (2 ^ 64 - 1)) h.token
-kept h Keep = h.level
+use Rattle.porch_depth.specs.Plans.{Plan, is_kind}
+use Rattle.porch_depth.specs.Levels.{Read, placed, read_or}
 
 -- these parts in front of others
 abbrev pub with_steps : Here → List Step → List Level → List Level
-with_steps h ss ls = map (kept h) ss ++ ls
+with_steps h ss ls = map (placed h.level h.token) ss ++ ls
 
 abbrev pub outcome : Here → Option Plan → List Level → Option (Taken × List Level)
 outcome h None ls = None
@@ -46,31 +40,10 @@ goes_on Counts w = is_mark mark.OpenBracket w
 goes_on Brackets w = is_mark mark.OpenBracket w || is_mark mark.OpenParenthesis w
 goes_on s w = false
 
--- what the token shows
-abbrev pub reading_kept : Here → Taken → Reading
-reading_kept h t =
-    record {
-      uses = min (h.level.uses + t.uses) (2 ^ 64 - 1);
-      back = if t.raises then h.token - h.level.start else 0;
-    }
-
-abbrev pub here : Level → ℕ → Here
-here l i = record { level = l; token = i }
-
-abbrev pub kept_or : Here → Option Plan → List Level → Option (Reading × List Level) → Option (Reading × List Level)
-kept_or h None ls other = other
-kept_or h (Some p) ls other = Some (reading_kept h p.taken, with_steps h p.steps ls)
-
--- Token `i` is read by the first of these parts that doesn't leave it out; what the code keeps.
-abbrev pub kept_read : Bool → ℕ → Word → List Symbol → List Level → Option (Reading × List Level)
-kept_read known i w [] ls = kept_or (here GROUND i) (item w) [] None
-kept_read known i w (s ∷ ss) ls = kept_or (here (top ls) i) (plan w known s) (under ls) (kept_read known i w ss (under ls))
-
 -- A part was offered the token, and took it or left it out.
 abbrev pub Offered : Here → Option Plan → Option Reading → List Level → List Level → Type 0
 Offered h p None old new = (p ≡ None) × (new ≡ old)
-Offered h p (Some r) old new = kept_or h p old None ≡ Some (r, new)
+Offered h p (Some r) old new = (other : Read) → read_or h.level h.token p old other ≡ record { reading = r; levels = new }
 
-abbrev pub shown_by : Option Reading → List Level → Option (Reading × List Level)
-shown_by None ls = None
-shown_by (Some r) ls = Some (r, ls)
+abbrev pub is_read : Reading → List Level → Read
+is_read r ls = record { reading = r; levels = ls }
