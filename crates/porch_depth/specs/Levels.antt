@@ -65,7 +65,7 @@ readings s ls i [] = []
 readings s ls i (t ∷ ts) =
     readings_from (step s t.word t.bytes)
     (λ next. (read (knows s t) i t.word s.pending ls).reading
-    ∷ readings next (read (knows s t) i t.word s.pending ls).levels (suc i) ts)
+    ∷ readings next (read (knows s t) i t.word s.pending ls).levels (i + 1) ts)
 
 -- how many of these put the token deeper that stands so many tokens before them
 abbrev pub covering : ℕ → List Reading → ℕ
@@ -83,7 +83,7 @@ uses_shown ts = shown (readings start [] 0 ts)
 -- the number of the first token that lies too deep, where the first of these is token `i`
 abbrev pub deep_from : ℕ → List ℕ → Option ℕ
 deep_from i [] = None
-deep_from i (n ∷ ns) = if nat_lt MOST_USES n then Some i else deep_from (suc i) ns
+deep_from i (n ∷ ns) = if nat_lt MOST_USES n then Some i else deep_from (i + 1) ns
 
 abbrev pub first_deep : List Spelled → Option ℕ
 first_deep ts = deep_from 0 (uses_shown ts)

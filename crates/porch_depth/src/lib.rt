@@ -5,12 +5,14 @@
 //! uses each token is shown to lie in, and `worked` what that is in some texts.
 #![tactic(auto)]
 
+mod along;
 mod declarations;
 mod expressions;
 pub mod level;
 mod parts;
 mod read;
 mod statements;
+mod sweep;
 mod take;
 pub mod worked;
 
