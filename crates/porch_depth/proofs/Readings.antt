@@ -1,13 +1,12 @@
 -- One more token that was read.
-use Rattle.std.proofs.Common.{◌≡◌, ℕ, ◌+◌, Bool, true, false, List, [], ◌∷◌, ◌++◌, reverse, drop, Option, Some, None, refl, sym, subst, ap, ◌∙◌, append_assoc}
+use Rattle.std.proofs.Common.{◌≡◌, ℕ, ◌+◌, Bool, true, false, List, [], ◌∷◌, ◌++◌, reverse, drop, Option, sym, subst, ap, ◌∙◌, append_assoc}
 use Rattle.std.proofs.lemmas.List.{append-nil}
 use Rattle.porch_tree.specs.declared.word.Word.{Word}
 use Rattle.porch_tree.specs.Pieces.{Spelled}
 use Rattle.porch_lex.specs.declared.token.Token.{Token}
 use Rattle.porch_lex.specs.Words.{spelled_token, spelled}
 use Rattle.porch_walk.specs.declared.symbol.Symbol.{Symbol}
-use Rattle.porch_walk.specs.declared.token_walk.TokenWalk.{TokenWalk}
-use Rattle.porch_walk.specs.Walk.{Stage, start, step}
+use Rattle.porch_walk.specs.Walk.{Stage, start}
 use Rattle.porch_walk.specs.Walks.{Took, knows, step_by}
 use Rattle.porch_depth.specs.declared.level.Level.{Level}
 use Rattle.porch_depth.specs.declared.level.Reading.{Reading}

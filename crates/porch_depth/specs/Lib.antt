@@ -4,5 +4,7 @@ pub mod Plans
 pub mod Levels
 -- small texts, and texts with many parentheses
 pub mod Worked
+-- what the code answers
+pub mod Faults
 -- what the code does
 pub mod inside

@@ -8,6 +8,7 @@
 mod along;
 mod declarations;
 mod expressions;
+pub mod fault;
 pub mod level;
 mod parts;
 mod read;
@@ -16,4 +17,5 @@ mod sweep;
 mod take;
 pub mod worked;
 
+pub use fault::{FaultyToken, GrammarFault, first_fault};
 pub use level::{Level, Reading, Step, Taken};

@@ -1,10 +1,9 @@
 -- How far the code has read the tokens of a text.
-use Rattle.std.specs.Prelude.{ℕ, ◌≡◌, ◌<◌, ◌-◌, suc, Bool, true, false, nat_eq, if◌then◌else◌, List, [], ◌∷◌, ◌++◌, length, reverse, drop, get_or, Some, None}
+use Rattle.std.specs.Prelude.{ℕ, ◌≡◌, ◌<◌, ◌-◌, suc, Bool, true, false, nat_eq, if◌then◌else◌, List, [], ◌∷◌, ◌++◌, reverse, take, drop, get_or, Option, Some, None}
 use Rattle.porch_tree.specs.Pieces.{Spelled}
 use Rattle.porch_lex.specs.declared.token.Token.{Token}
 use Rattle.porch_lex.specs.Words.{spelled}
-use Rattle.porch_walk.specs.declared.token_walk.TokenWalk.{TokenWalk}
-use Rattle.porch_walk.specs.Walk.{Stage, start, step}
+use Rattle.porch_walk.specs.Walk.{Stage, start, step, Wrong}
 use Rattle.porch_walk.specs.Walks.{IsAt, knows}
 use Rattle.porch_depth.specs.declared.level.Level.{Level}
 use Rattle.porch_depth.specs.declared.level.Reading.{Reading}
@@ -45,3 +44,8 @@ ending n (r ∷ rs) = if nat_eq r.back (suc n) then suc (ending (suc n) rs) else
 pub record IsSwept (rs : List Reading) (k : ℕ) (s : Sweep) : Type 0 where
   pub covering : s.covering ≡ covering 0 rs
   pub endings : (x : ℕ) → x < k → get_or s.endings.items x 0 ≡ ending (k - suc x) rs
+
+-- the tokens before the one where something is wrong
+abbrev pub front_of : List Token → Option Wrong → List Token
+front_of ts None = ts
+front_of ts (Some w) = take w.token ts

@@ -1,5 +1,5 @@
 -- What the code does with the levels of the parts that may come: its list has the next part last.
-use Rattle.std.specs.Prelude.{ℕ, ◌≡◌, ◌+◌, ◌^◌, ◌-◌, min, Bool, false, ◌||◌, List, ◌++◌, map, reverse, Option, Some, None, if◌then◌else◌, [], ◌∷◌}
+use Rattle.std.specs.Prelude.{◌≡◌, Bool, false, ◌||◌, List, ◌++◌, map, reverse, Option, Some, None}
 use Rattle.porch_tree.specs.declared.word.Keyword.TheVariants as key
 use Rattle.porch_tree.specs.declared.word.Mark.TheVariants as mark
 use Rattle.porch_tree.specs.declared.word.Word.{Word}

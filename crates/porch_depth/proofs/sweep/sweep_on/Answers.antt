@@ -1,6 +1,6 @@
-use Rattle.std.proofs.Common.{◌≡◌, arith, sym, ap, ◌∙◌, get_or}
+use Rattle.std.proofs.Common.{arith}
 use Rattle.std.proofs.lemmas.Grind.{common_steps}
-use Rattle.porch_depth.proofs.Sweeps.{one_if, swept_on}
+use Rattle.porch_depth.proofs.Sweeps.{swept_on}
 use Rattle.porch_depth.proofs.sweep.sweep_on.Goals as goal
 
 pub returns-else-reading-gt0-clause-swept : goal.returns-else-reading-gt0-clause-swept
