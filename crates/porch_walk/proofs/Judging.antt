@@ -11,7 +11,8 @@ use Rattle.porch_walk.specs.Reach.{IsReachOf}
 use Rattle.porch_walk.specs.Walk.{Stage, Wrong, step, start, wrong, wrong_at}
 use Rattle.porch_walk.specs.declared.wrong.WalkFault.{WalkFault}
 use Rattle.porch_walk.specs.Wrongs.{fault_of}
-use Rattle.porch_walk.specs.inside.Stages.{Stands, StandsBehind, JudgedOn, Judged, Walked, words_of}
+use Rattle.porch_walk.specs.inside.Stages.{StandsBehind, JudgedOn, Judged, Walked, words_of}
+use Rattle.porch_walk.specs.Walks.{Stands}
 use Rattle.porch_walk.proofs.Reach.{reach}
 
 pub words_are : (text : List ℕ) (ts : List Token) → map (λ q. q.word) (spelled text ts) ≡ words_of ts

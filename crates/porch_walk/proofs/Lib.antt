@@ -18,4 +18,5 @@ pub mod Stages
 pub mod Tokens
 pub mod Units
 pub mod Upward
+pub mod Walks
 pub mod Words

@@ -10,7 +10,7 @@ use Rattle.porch_walk.specs.declared.stage.Stage.{Stage as Kept}
 use Rattle.porch_walk.specs.declared.step.Turn.{Turn}
 use Rattle.porch_walk.specs.Walk.{Stage, names_type, name_bytes, step, ends_here}
 use Rattle.porch_walk.specs.inside.Steps.{upward, Moved, TurnedAt}
-use Rattle.porch_walk.specs.inside.Stages.{AreTypes, Stands}
+use Rattle.porch_walk.specs.Walks.{AreTypes, Stands}
 
 any_more : (f : Bor (List ℕ) → Bool) (ks : List (Bor (List ℕ))) (k : Bor (List ℕ))
     → list_any f (ks ++ k ∷ []) ≡ (f k || list_any f ks)

@@ -6,5 +6,7 @@ pub mod Wrongs
 pub mod Worked
 -- how far a text is read
 pub mod Reach
+-- where the code stands in a walk, and a walk that its caller leads
+pub mod Walks
 -- what single steps of the code do
 pub mod inside

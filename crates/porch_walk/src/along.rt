@@ -6,7 +6,8 @@ ghost use Rattle.porch_lex.specs.Words.{bytes_between, spelled_token, spelled};
 ghost use Rattle.porch_walk.specs.Walk.{Stage as Standing, start, wrong};
 ghost use Rattle.porch_walk.specs.Reach.{IsReachOf};
 ghost use Rattle.porch_walk.specs.Wrongs.{wrong_of};
-ghost use Rattle.porch_walk.specs.inside.Stages.{Stands, Judged, words_of};
+ghost use Rattle.porch_walk.specs.inside.Stages.{Judged, words_of};
+ghost use Rattle.porch_walk.specs.Walks.{Stands};
 
 use crate::stage::{Stage, is_over, take_word};
 use crate::wrong::{WalkFault, WrongToken};
@@ -163,7 +164,7 @@ fn is_name(word: Word) -> bool
 
 // The bytes of a token. The tests keep it right for every text and token, whatever they have to do with
 // one another.
-fn bytes_of(text: &[u8], token: Token) -> &[u8]
+pub(crate) fn bytes_of(text: &[u8], token: Token) -> &[u8]
     ensures { result.now ≡ bytes_between text.now token.from token.to }
 {
     let count = token.to.saturating_sub(token.from);

@@ -13,9 +13,12 @@ pub mod laws;
 mod stage;
 mod step;
 pub mod symbol;
+pub mod token_walk;
 pub mod worked;
 pub mod wrong;
 
 pub use along::first_wrong;
+pub use step::{assigning as is_assigning, infix as is_infix, is as is_word, kinds_with};
 pub use symbol::{Kinds, Mode, Naming, Symbol};
+pub use token_walk::TokenWalk;
 pub use wrong::{WalkFault, WrongToken};

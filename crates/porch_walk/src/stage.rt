@@ -3,7 +3,8 @@
 ghost use Rattle.std.specs.Prelude.{◌≡◌, IfOk};
 ghost use Rattle.porch_walk.specs.Walk.{Stage as Standing, step, is_over, ends_here, name_bytes};
 ghost use Rattle.porch_walk.specs.inside.Steps.{upward};
-ghost use Rattle.porch_walk.specs.inside.Stages.{Stands, Stepped};
+ghost use Rattle.porch_walk.specs.inside.Stages.{Stepped};
+ghost use Rattle.porch_walk.specs.Walks.{Stands};
 
 use crate::advance::go_on;
 use crate::step::Turn;
@@ -76,7 +77,7 @@ fn ends_here(pending: &[Symbol], inside: bool) -> bool
 }
 
 // only a name has bytes
-fn name_bytes<'t>(word: Word, bytes: &'t [u8]) -> &'t [u8]
+pub(crate) fn name_bytes<'t>(word: Word, bytes: &'t [u8]) -> &'t [u8]
     ensures { result.now ≡ name_bytes word bytes.now }
 {
     match word {

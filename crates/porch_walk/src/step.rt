@@ -131,13 +131,15 @@ fn number(word: Word) -> u8
     }
 }
 
-pub(crate) fn is(word: Word, other: Word) -> bool
+/// Whether two words are the same one.
+pub fn is(word: Word, other: Word) -> bool
     ensures { result ≡ is_word word other }
 {
     number(word) == number(other)
 }
 
-fn infix(word: Word) -> bool
+/// Whether a word is a binary operator.
+pub fn infix(word: Word) -> bool
     ensures { result ≡ is_infix word }
 {
     matches!(
@@ -165,7 +167,8 @@ fn infix(word: Word) -> bool
     )
 }
 
-fn assigning(word: Word) -> bool
+/// Whether a word is an operator that assigns.
+pub fn assigning(word: Word) -> bool
     ensures { result ≡ is_assigning word }
 {
     matches!(
@@ -237,7 +240,8 @@ fn takes(mode: Mode) -> bool
     }
 }
 
-fn kinds_with(seen: Kinds, word: Word) -> Option<Kinds>
+/// Which words of a kind have been read behind one more, if it may come.
+pub fn kinds_with(seen: Kinds, word: Word) -> Option<Kinds>
     ensures { result ≡ kinds_of seen word }
 {
     match word {

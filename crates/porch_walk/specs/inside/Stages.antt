@@ -1,28 +1,14 @@
--- What the code keeps of where a walk stands.
+-- What the code keeps of where a walk stands, behind one more token.
 use Rattle.std.specs.Prelude.{ℕ, ◌≡◌, ◌+◌, Bool, true, false, List, ◌∷◌, map, drop, Option, Some, None}
-use Rattle.std.specs.List.{list_any}
-use Rattle.std.specs.Str.{bytes_eq}
-use Rattle.std.specs.Borrow.{Bor}
 use Rattle.porch_tree.specs.declared.word.Word.{Word}
 use Rattle.porch_tree.specs.Pieces.{Spelled}
 use Rattle.porch_lex.specs.declared.token.Token.{Token}
 use Rattle.porch_lex.specs.Words.{kind_word, spelled}
 use Rattle.porch_walk.specs.declared.stage.Stage.{Stage as Kept}
 use Rattle.porch_walk.specs.declared.wrong.WalkFault.{WalkFault}
-use Rattle.porch_walk.specs.Walk.{Stage, names_type, start, wrong, wrong_at}
+use Rattle.porch_walk.specs.Walk.{Stage, start, wrong, wrong_at}
 use Rattle.porch_walk.specs.Wrongs.{fault_of}
-use Rattle.porch_walk.specs.inside.Steps.{upward}
-
--- the keys are the typedef names
-abbrev pub AreTypes : List (Bor (List ℕ)) → List (List ℕ) → Type 0
-AreTypes ks types = (n : List ℕ) → list_any (λ k. bytes_eq n k.now) ks ≡ names_type types n
-
--- The code stands where the walk stands.
-pub record Stands (k : Kept) (s : Stage) : Type 0 where
-  pub types : AreTypes k.types.keys s.types
-  pub fresh : k.fresh.now ≡ s.fresh
-  pub inside : k.inside ≡ s.inside
-  pub pending : upward k.pending.items ≡ s.pending
+use Rattle.porch_walk.specs.Walks.{Stands}
 
 pub record StandsBehind (o : Option Stage) (k : Kept) : Type 0 where
   pub next : Stage

@@ -1,0 +1,4 @@
+pub mod Takes
+pub mod Readings
+pub mod Sweeps
+pub mod Faults
