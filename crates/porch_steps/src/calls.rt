@@ -119,7 +119,7 @@ fn new_variable(
 {
     let root = Root { ty, count: 1 };
     match value {
-        Some(value) => Object::single(alloc, root, value),
+        Some(value) => Ok(Object::single(root, value)),
         None => Object::fresh(alloc, types, root),
     }
 }
