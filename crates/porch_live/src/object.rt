@@ -3,7 +3,7 @@ ghost use Rattle.std.specs.Prelude.{◌≡◌, ◌+◌, ◌<◌, ◌≤◌, ◌�
 ghost use Rattle.porch_objects.specs.Store.{indeterminate, with_leaves, changed_at, fresh, zeroed};
 ghost use Rattle.porch_objects.specs.Pointers.{block_of};
 ghost use Rattle.porch_live.specs.Views.{value_of, root_of};
-ghost use Rattle.porch_live.specs.inside.Edits.{edited, with_part};
+ghost use Rattle.porch_live.specs.inside.Edits.{edited, first_becomes, with_part};
 ghost use Rattle.porch_live.specs.inside.Leaves.{zeros_of};
 
 use crate::edit::Edit;
@@ -195,6 +195,17 @@ pub(crate) fn edit_one(objects: &mut [Object], index: usize, edit: &Edit)
     if index < objects.len() {
         let object = &mut objects[index];
         object.edit(edit);
+    }
+}
+
+/// Gives the first leaf of one of these objects a value, where it is there.
+pub(crate) fn set_first(objects: &mut [Object], index: usize, value: Value)
+    ensures { objects.new ≡ changed_at (first_becomes value) objects.old
+        (slice_get objects.old index) index }
+{
+    if index < objects.len() {
+        let object = &mut objects[index];
+        object.set_leaf(0, value);
     }
 }
 

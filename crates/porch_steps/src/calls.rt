@@ -206,6 +206,7 @@ impl Run {
     }
 
     /// A call: its value goes to a variable of the caller.
+    #[inline(never)]
     #[tactic(auto, using(crate::proofs::Arguments::all_there))]
     pub(crate) fn call(
         &mut self,
