@@ -76,7 +76,7 @@ END();
 ";
 
 /// A program that saves and rebuilds its frame.
-const SAVING: &str = "/* porch flat text, version 1 */
+pub(crate) const SAVING: &str = "/* porch flat text, version 1 */
 #include \"porch.h\"
 FUNCTION(0, main, 4, 0);
 VAR(0, 4);
@@ -283,7 +283,13 @@ const BROKEN_FORMS: [Broken; 11] = [
     },
 ];
 
-fn with_line(alloc: Global, text: &str, number: u64, instead: &str) -> Result<Vec<u8>, AllocError> {
+/// A text with other lines in place of one.
+pub(crate) fn with_line(
+    alloc: Global,
+    text: &str,
+    number: u64,
+    instead: &str,
+) -> Result<Vec<u8>, AllocError> {
     let mut out = Vec::new(alloc);
     let mut at = 1u64;
     for byte in text.as_bytes() {

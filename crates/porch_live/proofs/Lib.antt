@@ -4,7 +4,7 @@ pub mod Stacked
 pub mod Blocks
 pub mod Kept
 pub mod Unknown
-pub mod Leaves
+pub mod Alike
 pub mod Ended
 pub mod Allocating
 pub mod Used

@@ -129,6 +129,24 @@ number_of_last (x ∷ []) callers (suc k) called e last there = cc
 number_of_last (x ∷ y ∷ es) callers zero called e last there = absurd (omega (arith, last))
 number_of_last (x ∷ y ∷ es) callers (suc k) called e last there = number_of_last (y ∷ es) (x ∷ callers) k called e (omega (arith, last)) there
 
+pub variables_of_last : (es callers : List Activation) (k called : ℕ) (e : Activation) → k + 1 ≡ length es → slice_get es k ≡ Some e
+    → variables_in (stacked es callers) (innermost_in (stacked es callers) called) ≡ e.variables
+variables_of_last [] callers k called e last there = cc
+variables_of_last (x ∷ []) callers zero called e last there =
+    let same : x ≡ e = cc in
+    elim (eqb_tells x.number x.number) [
+      | inl w ↦ rw w.0 (ap (λ (a : Activation). a.variables) same)
+      | inr w ↦ absurd (w.1 refl)
+    ]
+variables_of_last (x ∷ []) callers (suc k) called e last there = cc
+variables_of_last (x ∷ y ∷ es) callers zero called e last there = absurd (omega (arith, last))
+variables_of_last (x ∷ y ∷ es) callers (suc k) called e last there = variables_of_last (y ∷ es) (x ∷ callers) k called e (omega (arith, last)) there
+
+-- no entry has a number where there is none
+pub none_of_none : (es : List Activation) → length es ≡ 0 → es ≡ []
+none_of_none [] nil = refl
+none_of_none (x ∷ es) nil = absurd (omega (arith, nil))
+
 -- without the last entry
 pub stacked_front : (es new : List Activation) (o : Option Activation) → es ≡ new ++ option_to_list o → (o ≡ None → length es ≡ 0)
     → stacked new [] ≡ callers_in (stacked es [])

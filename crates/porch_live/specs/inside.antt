@@ -3,6 +3,7 @@ pub mod Entries
 pub mod Uses
 pub mod Rows
 pub mod Positions
+pub mod Leaves
 pub mod Edits
 pub mod Places
 pub mod Texts

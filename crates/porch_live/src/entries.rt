@@ -3,12 +3,13 @@ ghost use Rattle.std.specs.Prelude.{◌≡◌, ℕ, ◌++◌, ◌∷◌, [], IfS
 ghost use Rattle.std.specs.Option.{option_map};
 ghost use Rattle.porch_objects.specs.Store.{variables_in, changed_calls, innermost_in, callers_in};
 ghost use Rattle.porch_objects.specs.Pointers.{without_block};
-ghost use Rattle.porch_live.specs.inside.Edits.{edited};
+ghost use Rattle.porch_live.specs.inside.Edits.{edited, first_becomes};
 ghost use Rattle.porch_live.specs.inside.Entries.{IsRising, IsBelow, StandsAt, HasNone, stacked, blocks_of, ended, is_live};
 
 use crate::edit::Edit;
 use crate::entry::Entry;
 use crate::object::Object;
+use crate::value::Value;
 use std::alloc::AllocError;
 
 /// The object of an entry.
@@ -32,6 +33,31 @@ pub(crate) fn edit_in(entries: &mut Vec<Entry>, number: u64, index: usize, edit:
     if let Some(at) = index_of(entries, number) {
         let entry = &mut entries[at];
         entry.edit(index, edit);
+    }
+}
+
+/// The object of the last entry.
+pub(crate) fn last_object(entries: &[Entry], index: usize) -> Option<&Object>
+    ensures { (none : ℕ) → option_map (λ object. object.now) result
+        ≡ slice_get (variables_in (stacked entries.now [])
+        (innermost_in (stacked entries.now []) none)) index }
+{
+    match entries.last() {
+        Some(entry) => entry.object(index),
+        None => None,
+    }
+}
+
+/// Gives the first leaf of an object of the last entry a value, where it is there.
+pub(crate) fn set_last(entries: &mut Vec<Entry>, index: usize, value: Value)
+    requires { IsRising 0 entries.old.items }
+    ensures { (none : ℕ) → entries.new.items ≡ changed_calls (first_becomes value)
+        entries.old.items (innermost_in (stacked entries.old.items []) none) index }
+{
+    let len = entries.len();
+    if len > 0 {
+        let entry = &mut entries[len - 1];
+        entry.set_first(index, value);
     }
 }
 

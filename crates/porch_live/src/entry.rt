@@ -3,10 +3,11 @@ ghost use Rattle.std.specs.Prelude.{◌≡◌, [], slice_get};
 ghost use Rattle.std.specs.Option.{option_map};
 ghost use Rattle.porch_objects.specs.Store.{changed_at};
 ghost use Rattle.porch_live.specs.inside.Entries.{is_live, with_variables};
-ghost use Rattle.porch_live.specs.inside.Edits.{edited};
+ghost use Rattle.porch_live.specs.inside.Edits.{edited, first_becomes};
 
 use crate::edit::Edit;
-use crate::object::{Object, edit_one};
+use crate::object::{Object, edit_one, set_first};
+use crate::value::Value;
 use std::marker::Model;
 
 /// The objects of a call or of an allocation. Contracts see it as a call with its variables.
@@ -49,6 +50,14 @@ impl Entry {
             self.old.variables (slice_get self.old.variables index) index) }
     {
         edit_one(&mut self.objects, index, edit);
+    }
+
+    /// Gives the first leaf of an object a value, where it is there.
+    pub(crate) fn set_first(&mut self, index: usize, value: Value)
+        ensures { self.new ≡ with_variables self.old (changed_at (first_becomes value)
+            self.old.variables (slice_get self.old.variables index) index) }
+    {
+        set_first(&mut self.objects, index, value);
     }
 
     /// Whether it has an object.

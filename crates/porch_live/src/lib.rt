@@ -14,6 +14,7 @@ mod comparisons;
 mod edit;
 mod entries;
 mod entry;
+mod leaves;
 mod object;
 mod places;
 mod pointers;

@@ -1,11 +1,13 @@
 //! Objects, each a root with the values of its leaves.
-ghost use Rattle.std.specs.Prelude.{◌≡◌, ◌+◌, ◌≤◌, ◌∷◌, [], nat_le, take, drop, length, map, replicate, slice_get, slice_set, slice_index_or, IfOk};
+ghost use Rattle.std.specs.Prelude.{◌≡◌, ◌+◌, ◌<◌, ◌≤◌, ◌∷◌, [], nat_le, take, drop, length, map, replicate, slice_get, slice_set, slice_index_or, IfOk};
 ghost use Rattle.porch_objects.specs.Store.{indeterminate, with_leaves, changed_at, fresh, zeroed};
 ghost use Rattle.porch_objects.specs.Pointers.{block_of};
 ghost use Rattle.porch_live.specs.Views.{value_of, root_of};
-ghost use Rattle.porch_live.specs.inside.Edits.{edited, spliced_in, with_part};
+ghost use Rattle.porch_live.specs.inside.Edits.{edited, first_becomes, with_part};
+ghost use Rattle.porch_live.specs.inside.Leaves.{zeros_of};
 
 use crate::edit::Edit;
+use crate::leaves::Leaves;
 use crate::roots::{leaves_in, zero_of};
 use crate::value::Value;
 use porch_types::Types;
@@ -23,7 +25,7 @@ pub struct Root {
 #[derive(Drop)]
 pub struct Object {
     root: Root,
-    leaves: Vec<Value>,
+    leaves: Leaves,
 }
 
 impl Model for Object {
@@ -33,8 +35,9 @@ impl Model for Object {
     ghost Value = { store.Object };
 
     ghost use Rattle.porch_live.specs.Views.{value_of, root_of};
+    ghost use Rattle.porch_live.specs.inside.Leaves.{values_in};
 
-    ghost view = { λ o. record { root = root_of o.root; leaves = map value_of o.leaves.items } };
+    ghost view = { λ o. record { root = root_of o.root; leaves = map value_of (values_in o.leaves) } };
 }
 
 impl Object {
@@ -42,8 +45,7 @@ impl Object {
     pub fn fresh(alloc: Global, types: &Types, root: Root) -> Result<Object, AllocError>
         ensures { IfOk result (λ object. object ≡ fresh types.now (root_of root)) }
     {
-        let mut leaves = Vec::new(alloc);
-        leaves.resize(leaves_in(types, root) as usize, Value::Indeterminate)?;
+        let leaves = Leaves::alike(alloc, leaves_in(types, root), Value::Indeterminate)?;
         Ok(Object { root, leaves })
     }
 
@@ -51,21 +53,21 @@ impl Object {
     pub fn zeroed(alloc: Global, types: &Types, root: Root) -> Result<Object, AllocError>
         ensures { IfOk result (λ object. object ≡ zeroed types.now (root_of root)) }
     {
-        let count = leaves_in(types, root);
-        let mut leaves = Vec::with_capacity(alloc, count as usize)?;
-        for leaf in 0..count {
-            leaves.push(zero_of(types, types.leaf_type(root.ty, leaf)))?;
-        }
+        let leaves = match leaves_in(types, root) {
+            1 => Leaves::One(zero_of(types, types.leaf_type(root.ty, 0))),
+            count => Leaves::Many(zeros(alloc, types, root.ty, count)?),
+        };
         Ok(Object { root, leaves })
     }
 
     /// An object of one leaf, with its value.
-    pub fn single(alloc: Global, root: Root, value: Value) -> Result<Object, AllocError>
-        ensures { IfOk result (λ object. object
-            ≡ record { root = root_of root; leaves = value_of value ∷ [] }) }
+    pub fn single(root: Root, value: Value) -> Object
+        ensures { result ≡ record { root = root_of root; leaves = value_of value ∷ [] } }
     {
-        let leaves = Vec::from_slice(alloc, &[value])?;
-        Ok(Object { root, leaves })
+        Object {
+            root,
+            leaves: Leaves::One(value),
+        }
     }
 
     /// The root.
@@ -79,7 +81,7 @@ impl Object {
     pub fn len(&self) -> usize
         ensures { result ≡ length self.now.leaves }
     {
-        self.leaves.len()
+        self.leaves.as_slice().len()
     }
 
     /// The value of a leaf; indeterminate behind the last.
@@ -87,8 +89,9 @@ impl Object {
         ensures { value_of result ≡ slice_index_or self.now.leaves leaf indeterminate }
     {
         let at = leaf as usize;
-        if at < self.leaves.len() {
-            self.leaves[at]
+        let values = self.leaves.as_slice();
+        if at < values.len() {
+            values[at]
         } else {
             Value::Indeterminate
         }
@@ -99,10 +102,7 @@ impl Object {
         ensures { self.new
             ≡ with_leaves self.old (slice_set self.old.leaves leaf (value_of value)) }
     {
-        let at = leaf as usize;
-        if at < self.leaves.len() {
-            self.leaves[at] = value;
-        }
+        self.leaves.set(leaf as usize, value);
     }
 
     pub(crate) fn edit(&mut self, edit: &Edit)
@@ -125,7 +125,7 @@ impl Object {
         ensures { IfOk result (λ values. map value_of values.items
             ≡ take count (drop leaf self.now.leaves)) }
     {
-        let part = part_of(&self.leaves, leaf as usize, count as usize);
+        let part = part_of(self.leaves.as_slice(), leaf as usize, count as usize);
         let values = Vec::from_slice(alloc, part)?;
         Ok(values)
     }
@@ -135,10 +135,11 @@ impl Object {
         ensures { result ≡ nat_le (leaf + count) (length self.now.leaves) }
     {
         let at = leaf as usize;
-        if at > self.leaves.len() {
+        let len = self.leaves.as_slice().len();
+        if at > len {
             return false;
         }
-        count <= self.leaves.len() - at
+        count <= len - at
     }
 
     /// All leaves become indeterminate.
@@ -153,10 +154,24 @@ impl Object {
     fn set_part(&mut self, at: usize, values: &[Value])
         ensures { self.new ≡ with_part at (map value_of values.now) self.old }
     {
-        if at <= self.leaves.len() && values.len() <= self.leaves.len() - at {
-            put_part(&mut self.leaves, at, values);
+        let len = self.leaves.as_slice().len();
+        if at <= len && values.len() <= len - at {
+            self.leaves.put_part(at, values);
         }
     }
+}
+
+/// The values of so many leaves of a type that are all 0 and null.
+fn zeros(alloc: Global, types: &Types, ty: u32, count: u64) -> Result<Vec<Value>, AllocError>
+    requires { 0 < count → ty < length types.now }
+    ensures { IfOk result (λ values. map value_of values.items
+        ≡ zeros_of types.now ty count) }
+{
+    let mut values = Vec::with_capacity(alloc, count as usize)?;
+    for leaf in 0..count {
+        values.push(zero_of(types, types.leaf_type(ty, leaf)))?;
+    }
+    Ok(values)
 }
 
 fn part_of(values: &[Value], at: usize, count: usize) -> &[Value]
@@ -172,14 +187,6 @@ fn part_of(values: &[Value], at: usize, count: usize) -> &[Value]
     rest
 }
 
-fn put_part(leaves: &mut [Value], at: usize, values: &[Value])
-    requires { at + length values.now ≤ length leaves.old }
-    ensures value { leaves.new ≡ spliced_in leaves.old at values.now }
-    ensures len { length leaves.new ≡ length leaves.old }
-{
-    leaves[at..at + values.len()].copy_from_slice(values);
-}
-
 /// Changes one of these objects, where it is there.
 pub(crate) fn edit_one(objects: &mut [Object], index: usize, edit: &Edit)
     ensures { objects.new ≡ changed_at (edited edit.now) objects.old
@@ -188,6 +195,17 @@ pub(crate) fn edit_one(objects: &mut [Object], index: usize, edit: &Edit)
     if index < objects.len() {
         let object = &mut objects[index];
         object.edit(edit);
+    }
+}
+
+/// Gives the first leaf of one of these objects a value, where it is there.
+pub(crate) fn set_first(objects: &mut [Object], index: usize, value: Value)
+    ensures { objects.new ≡ changed_at (first_becomes value) objects.old
+        (slice_get objects.old index) index }
+{
+    if index < objects.len() {
+        let object = &mut objects[index];
+        object.set_leaf(0, value);
     }
 }
 

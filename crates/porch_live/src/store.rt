@@ -1,14 +1,16 @@
 //! The store: what lives, and how calls, allocations and checkpoints are counted.
 ghost use Rattle.std.specs.Prelude.{◌≡◌, is_some, IfOk, OnOk, OnErr};
 ghost use Rattle.std.specs.Option.{option_map};
-ghost use Rattle.porch_objects.specs.Store.{store_of, object_at, seen, leaf_at, changed, forgotten, with_leaf_at, innermost, entered, left, reached_one, with_blocks};
+ghost use Rattle.porch_objects.specs.Store.{store_of, object_at, seen, leaf_at, changed, forgotten, with_leaf_at, innermost, variable_home, entered, left, reached_one, with_blocks};
 ghost use Rattle.porch_objects.specs.Pointers.{allocate, release, without_block};
 ghost use Rattle.porch_live.specs.inside.Edits.{edited};
 ghost use Rattle.porch_live.specs.Answers.{after, allocation_of};
 ghost use Rattle.porch_live.specs.Views.{home_of, value_of};
 
 use crate::edit::Edit;
-use crate::entries::{edit_in, end_block, last_number, object_in, push, remove_last};
+use crate::entries::{
+    edit_in, end_block, last_number, last_object, object_in, push, remove_last, set_last,
+};
 use crate::entry::Entry;
 use crate::object::{Object, Root, edit_one, new_object, one_object};
 use crate::value::{Home, Value, block_to_free, count_of, if_good, is_good};
@@ -112,6 +114,25 @@ impl Store {
             Some(object) => object.leaf(leaf),
             None => Value::Indeterminate,
         }
+    }
+
+    /// The value of a variable of the innermost call, as it was stored: of its first leaf. Indeterminate
+    /// where there is none.
+    pub fn variable(&self, variable: u32) -> Value
+        ensures { value_of result ≡ leaf_at self.now (variable_home self.now variable) 0 }
+    {
+        match last_object(&self.calls, variable as usize) {
+            Some(object) => object.leaf(0),
+            None => Value::Indeterminate,
+        }
+    }
+
+    /// Gives a variable of the innermost call a value: its first leaf. Where there is none nothing changes.
+    pub fn set_variable(&mut self, variable: u32, value: Value)
+        ensures { self.new ≡ with_leaf_at self.old (variable_home self.old variable) 0
+            (value_of value) }
+    {
+        set_last(&mut self.calls, variable as usize, value);
     }
 
     /// Gives a leaf a value. Where there is no such leaf nothing changes.

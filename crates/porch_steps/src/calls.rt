@@ -119,7 +119,7 @@ fn new_variable(
 {
     let root = Root { ty, count: 1 };
     match value {
-        Some(value) => Object::single(alloc, root, value),
+        Some(value) => Ok(Object::single(root, value)),
         None => Object::fresh(alloc, types, root),
     }
 }
@@ -206,6 +206,7 @@ impl Run {
     }
 
     /// A call: its value goes to a variable of the caller.
+    #[inline(never)]
     #[tactic(auto, using(crate::proofs::Arguments::all_there))]
     pub(crate) fn call(
         &mut self,

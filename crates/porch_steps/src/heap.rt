@@ -38,6 +38,7 @@ fn pointee_type(flat: &Flat, run: &Run, variable: u32) -> Option<u32>
 
 impl Run {
     /// What a pointer points to becomes an operand.
+    #[inline(never)]
     pub(crate) fn store_value(
         &mut self,
         flat: &Flat,
@@ -61,6 +62,7 @@ impl Run {
     }
 
     /// The struct that a pointer points to becomes another one.
+    #[inline(never)]
     pub(crate) fn copy_struct(
         &mut self,
         alloc: Global,
@@ -115,6 +117,7 @@ impl Run {
     }
 
     /// A variable becomes a pointer to a new object.
+    #[inline(never)]
     pub(crate) fn allocate(
         &mut self,
         alloc: Global,
@@ -149,6 +152,7 @@ impl Run {
     }
 
     /// Ends the object that a pointer points to.
+    #[inline(never)]
     pub(crate) fn free(&mut self, flat: &Flat, from: u32) -> Result<AStep, AllocError>
         requires running { self.old.phase ≡ Phase.Running }
         requires place { self.old.frame.next + 1 < 2 ^ 64 }
@@ -165,6 +169,7 @@ impl Run {
     }
 
     /// Shows the text that a pointer points to, and a variable becomes the number of bytes.
+    #[inline(never)]
     pub(crate) fn text(
         &mut self,
         alloc: Global,

@@ -1,13 +1,14 @@
 //! The flat abstract machine in code, for every command of the flat text: a program over objects, without bytes.
 //!
 //! Start at [`Abstract`] in `machine.rt`. `beginning.rt` makes the labels and the globals of a program, `run.rt` has what
-//! is kept of a run and `frame.rt` its frames. `step.rt` takes a step: what a command on variables leads to is computed
-//! before it is done (`effect.rt`, `compute.rt`, `pointers.rt`, then `take.rt`), and `heap.rt` and `calls.rt` do what
+//! is kept of a run and `frame.rt` its frames. `step.rt` takes a step, `commands.rt` what a command on variables does: what it leads
+//! to is computed before it is done (`effect.rt`, `compute.rt`, `pointers.rt`, then `take.rt`), and `heap.rt` and `calls.rt` do what
 //! changes more. `specs/Held` says what contracts see of the machine.
 #![tactic(auto)]
 
 mod beginning;
 mod calls;
+mod commands;
 mod compute;
 mod effect;
 mod frame;

@@ -10,15 +10,8 @@ ghost use Rattle.porch_steps.specs.inside.Effects.{done_by};
 ghost use Rattle.porch_steps.specs.inside.Kept.{state_of};
 
 use crate::calls::{new_variables, vars_of};
-use crate::compute::{
-    code, compute_branch, compute_cast, compute_complement, compute_jump, compute_kill,
-    compute_move, compute_operator, compute_return, compute_show,
-};
-use crate::effect::Effect;
+use crate::compute::code;
 use crate::frame::Phase;
-use crate::pointers::{
-    compute_comparison, compute_difference, compute_load, compute_step, compute_subobject,
-};
 use crate::run::Run;
 use porch_abstract::AStep;
 use porch_flat::whole::{Command, Flat, Form, Labels, form_of_command, main_number};
@@ -44,77 +37,35 @@ impl Run {
             (state_of self.old) (state_of self.new) result }
     {
         match form_of_command(command) {
-            Form::Move(v, o) => {
-                let effect = compute_move(flat, self, v, o);
-                self.take(effect)
-            }
-            Form::Cast(v, w) => {
-                let effect = compute_cast(flat, self, widths, v, w);
-                self.take(effect)
-            }
-            Form::Operator(op, v, a, b) => {
-                let effect = compute_operator(flat, self, widths, op, v, a, b)?;
-                self.take(effect)
-            }
-            Form::Complement(v, o) => {
-                let effect = compute_complement(flat, self, widths, v, o)?;
-                self.take(effect)
-            }
-            Form::Comparison(how, v, a, b) => {
-                let effect = compute_comparison(flat, self, how, v, a, b);
-                self.take(effect)
-            }
-            Form::Subobject(v, within, leaf) => {
-                let effect = compute_subobject(flat, self, v, within, leaf)?;
-                self.take(effect)
-            }
-            Form::Step(way, v, p, o) => {
-                let effect = compute_step(flat, self, way, v, p, o)?;
-                self.take(effect)
-            }
-            Form::Difference(v, p, q) => {
-                let effect = compute_difference(flat, self, v, p, q);
-                self.take(effect)
-            }
-            Form::Load(v, p) => {
-                let effect = compute_load(flat, self, v, p);
-                self.take(effect)
-            }
+            Form::Move(v, o) => self.perform_move(flat, v, o),
+            Form::Cast(v, w) => self.perform_cast(flat, widths, v, w),
+            Form::Operator(op, v, a, b) => self.perform_operator(flat, widths, op, v, a, b),
+            Form::Complement(v, o) => self.perform_complement(flat, widths, v, o),
+            Form::Comparison(how, v, a, b) => self.perform_comparison(flat, how, v, a, b),
+            Form::Subobject(v, within, leaf) => self.perform_subobject(flat, v, within, leaf),
+            Form::Step(way, v, p, o) => self.perform_step(flat, way, v, p, o),
+            Form::Difference(v, p, q) => self.perform_difference(flat, v, p, q),
+            Form::Load(v, p) => self.perform_load(flat, v, p),
             Form::Store(p, o) => self.store_value(flat, p, o),
             Form::Copy(p, q) => self.copy_struct(alloc, flat, p, q),
-            Form::Kill(v) => {
-                let effect = compute_kill(flat, self, v);
-                self.take(effect)
-            }
+            Form::Kill(v) => self.perform_kill(flat, v),
             Form::Allocate(zeros, v, o) => self.allocate(alloc, flat, zeros, v, o),
             Form::Free(p) => self.free(flat, p),
-            Form::Show(how, v, o) => {
-                let effect = compute_show(flat, self, how, v, o);
-                self.take(effect)
-            }
+            Form::Show(how, v, o) => self.perform_show(flat, how, v, o),
             Form::Text(v, p) => self.text(alloc, flat, v, p),
-            Form::Label(_) => self.take(Effect::On),
-            Form::Jump(n) => {
-                let effect = compute_jump(flat, self, labels, n);
-                self.take(effect)
-            }
-            Form::Branch(o, n) => {
-                let effect = compute_branch(flat, self, labels, o, n);
-                self.take(effect)
-            }
-            Form::Turn => self.take(Effect::Count),
+            Form::Label(_) => self.on(),
+            Form::Jump(n) => self.perform_jump(flat, labels, n),
+            Form::Branch(o, n) => self.perform_branch(flat, labels, o, n),
+            Form::Turn => self.count(),
             Form::Call(into, function, operands) => {
                 self.call(alloc, flat, into, function, operands)
             }
-            Form::Return(o) => {
-                let effect = compute_return(flat, self, o);
-                self.take(effect)
-            }
-            Form::Checkpoint => self.take(Effect::Reach),
-            Form::Restore(_) => self.take(Effect::On),
-            Form::Table(_, _) => self.take(Effect::On),
-            Form::Saved(_, _) => self.take(Effect::On),
-            Form::Push(_) => self.take(Effect::On),
+            Form::Return(o) => self.perform_return(flat, o),
+            Form::Checkpoint => self.reach(),
+            Form::Restore(_) => self.on(),
+            Form::Table(_, _) => self.on(),
+            Form::Saved(_, _) => self.on(),
+            Form::Push(_) => self.on(),
         }
     }
 

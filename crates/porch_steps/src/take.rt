@@ -127,8 +127,7 @@ pub(crate) fn put(store: &mut Store, variable: u32, value: Value)
     ensures { store.new
         ≡ with_leaf_at store.old (variable_home store.old variable) 0 (value_of value) }
 {
-    let home = variable_home(store, variable);
-    store.set_leaf(home, 0, value);
+    store.set_variable(variable, value);
 }
 
 // Where a variable of the innermost call lives.
@@ -161,7 +160,8 @@ impl Run {
         }
     }
 
-    fn on(&mut self) -> Result<AStep, AllocError>
+    /// Goes on behind the command.
+    pub(crate) fn on(&mut self) -> Result<AStep, AllocError>
         requires running { self.old.phase ≡ Phase.Running }
         requires place { self.old.frame.next + 1 < 2 ^ 64 }
         ensures led { Led self.old self.new Effect.On result }
@@ -199,8 +199,8 @@ impl Run {
         Ok(AStep::Went)
     }
 
-    // A turn past 2^64 - 1 can't be counted.
-    fn count(&mut self) -> Result<AStep, AllocError>
+    /// Counts a turn. One past 2^64 - 1 can't be counted.
+    pub(crate) fn count(&mut self) -> Result<AStep, AllocError>
         requires running { self.old.phase ≡ Phase.Running }
         requires place { self.old.frame.next + 1 < 2 ^ 64 }
         ensures led { Led self.old self.new Effect.Count result }
@@ -213,7 +213,8 @@ impl Run {
         Ok(AStep::Went)
     }
 
-    fn reach(&mut self) -> Result<AStep, AllocError>
+    /// A checkpoint is reached.
+    pub(crate) fn reach(&mut self) -> Result<AStep, AllocError>
         requires running { self.old.phase ≡ Phase.Running }
         requires place { self.old.frame.next + 1 < 2 ^ 64 }
         ensures led { Led self.old self.new Effect.Reach result }
@@ -227,6 +228,7 @@ impl Run {
         }
     }
 
+    #[inline(never)]
     fn show(&mut self, how: Display, variable: u32, value: Value) -> Result<AStep, AllocError>
         requires running { self.old.phase ≡ Phase.Running }
         requires place { self.old.frame.next + 1 < 2 ^ 64 }
@@ -251,6 +253,7 @@ impl Run {
     }
 
     /// The frame ends with a value.
+    #[inline(never)]
     pub(crate) fn give_back(&mut self, value: Value) -> Result<AStep, AllocError>
         requires running { self.old.phase ≡ Phase.Running }
         ensures led { Led self.old self.new (Effect.Give value) result }

@@ -21,6 +21,10 @@ has_part (Some object) leaf count = nat_le (leaf + count) (length object.leaves)
 abbrev pub spliced_in : List code.Value → ℕ → List code.Value → List code.Value
 spliced_in values at new = take at values ++ (new ++ drop (at + length new) values)
 
+-- the first leaf becomes a value
+abbrev pub first_becomes : code.Value → Object → Object
+first_becomes value object = with_leaves object (slice_set object.leaves 0 (value_of value))
+
 abbrev pub edited : Edit → Object → Object
 edited (Leaf leaf value) object = with_leaves object (slice_set object.leaves leaf (value_of value))
 edited (Part at values) object = with_part at (map value_of values.items) object

@@ -1,4 +1,4 @@
--- The leaves of a new object.
+-- Leaves of one value, and one leaf more.
 use Rattle.std.proofs.Common.{◌≡◌, ℕ, zero, suc, ◌+◌, ◌-◌, List, [], ◌∷◌, ◌++◌, map, take, length, replicate, refl, sym, ap, ◌∙◌, arith}
 use Rattle.std.proofs.lemmas.List.{map-append, length-map}
 use Rattle.std.proofs.lemmas.List.FromFn.{map-range_with_len_more}
@@ -7,7 +7,7 @@ use Rattle.porch_objects.specs.Store as store
 use Rattle.porch_live.specs.declared.value.Value.{Value}
 use Rattle.porch_live.specs.Views.{value_of}
 
-alike : (n : ℕ) (v : Value) → map value_of (replicate n v) ≡ replicate n (value_of v)
+pub alike : (n : ℕ) (v : Value) → map value_of (replicate n v) ≡ replicate n (value_of v)
 alike zero v = refl
 alike (suc n) v = ap (λ (vs : List store.Value). value_of v ∷ vs) (alike n v)
 
@@ -15,10 +15,9 @@ none_taken : (n : ℕ) → take n (let none : List Value = [] in none) ≡ []
 none_taken zero = refl
 none_taken (suc n) = refl
 
--- leaves that are all alike, put behind none
-pub all_alike : (xs : List Value) (n len : ℕ) (v : Value) → xs ≡ [] → len ≡ 0
-    → map value_of (take n xs ++ replicate (n - len) v) ≡ replicate n (value_of v)
-all_alike xs n len v none nil = rw (none, nil, none_taken n) (let same : n - 0 ≡ n = omega arith in rw same (alike n v))
+-- values that are all alike, put behind none
+pub behind_none : (xs : List Value) (n len : ℕ) (v : Value) → xs ≡ [] → len ≡ 0 → take n xs ++ replicate (n - len) v ≡ replicate n v
+behind_none xs n len v none nil = rw (none, nil, none_taken n) (let same : n - 0 ≡ n = omega arith in rw same refl)
 
 -- leaves that were all given one value
 pub all_become : (old new : List Value) (n : ℕ) (v : Value) → n ≡ length old → new ≡ replicate n v
