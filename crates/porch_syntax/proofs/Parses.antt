@@ -54,3 +54,8 @@ pub none_read : (text : List ℕ) (o : Option Program) (q : Program) → o ≡ s
 none_read text o q e f s =
     let both : None ≡ Some q = sym f ∙ e ∙ parses text q s in
     cc
+
+pub one_program : (text : List ℕ) (p q : Program) → IsSource text p → IsSource text q → p ≡ q
+one_program text p q a b =
+    let both : Some p ≡ Some q = sym (parses text p a) ∙ parses text q b in
+    cc

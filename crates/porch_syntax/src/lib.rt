@@ -17,6 +17,6 @@ mod statement;
 pub mod token;
 pub mod tree;
 
-pub use parser::parse;
+pub use parser::{a_text_is_one_program, parse};
 pub use refusal::{Refusal, Rule, SourceFault};
 pub use tree::{Expr, Sign, Stmt, Tree};

@@ -1,6 +1,6 @@
 //! The one call.
 
-ghost use Rattle.std.specs.Prelude.{◌≡◌, ◌≤◌, ◌<◌, ◌^◌, ◌⊎◌, length, IfOk, IfErr, MatchResult};
+ghost use Rattle.std.specs.Prelude.{List, ℕ, ◌≡◌, ◌≤◌, ◌<◌, ◌^◌, ◌⊎◌, length, IfOk, IfErr, MatchResult};
 ghost use Rattle.std.specs.Option.{option_map};
 ghost use Rattle.porch_syntax.specs.Language.{IsSource, IsRefusal};
 ghost use Rattle.porch_syntax.specs.inside.Source.{source_of};
@@ -49,3 +49,8 @@ pub fn parse(alloc: Global, text: &[u8]) -> Result<Tree, SourceFault>
         })),
     }
 }
+
+/// A text is at most one program. The function is a law, and has nothing to run.
+pub fn a_text_is_one_program()
+    ensures { (text : List ℕ) (p q : Program) → IsSource text p → IsSource text q → p ≡ q }
+{}

@@ -1,0 +1,5 @@
+pub mod Slices
+pub mod Cleaning
+pub mod Alone
+pub mod Places
+pub mod Answering
