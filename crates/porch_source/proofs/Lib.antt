@@ -3,3 +3,4 @@ pub mod Cleaning
 pub mod Alone
 pub mod Places
 pub mod Answering
+pub mod Kept

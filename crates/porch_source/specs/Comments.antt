@@ -1,5 +1,5 @@
 -- A text without its comments and includes. They become white space, so that each token stands where it stood.
-use Rattle.std.specs.Prelude.{ℕ, ◌==◌, if◌then◌else◌, List, [], ◌∷◌, ◌++◌, map, drop}
+use Rattle.std.specs.Prelude.{ℕ, ◌≡◌, ◌⊎◌, ◌==◌, if◌then◌else◌, List, [], ◌∷◌, ◌++◌, map, drop, ⊤}
 use Rattle.porch_lex.specs.declared.token.Token.{Token}
 use Rattle.porch_lex.specs.Words.{bytes_between}
 
@@ -19,3 +19,9 @@ without_comments_from at text (t ∷ ts) =
 
 abbrev pub without_comments : List ℕ → List Token → List ℕ
 without_comments text ts = without_comments_from 0 text ts
+
+-- Byte by byte a text like another one, or white space in its place.
+abbrev pub KeepsPlaces : List ℕ → List ℕ → Type 0
+KeepsPlaces [] [] = ⊤
+KeepsPlaces (c ∷ cs) (d ∷ ds) = ((d ≡ c) ⊎ (d ≡ blank_of c)) × KeepsPlaces cs ds
+KeepsPlaces cs ds = ⊥

@@ -82,9 +82,9 @@ fn read_clean(alloc: Global, clean: &[u8]) -> Result<Tree, SourceFault>
         ⊎ (e ≡ Unbuilt) × ((p : Program) → IsSource clean.now p → ⊥)) }
 {
     match parse(alloc, clean) {
-        Ok(tree) => Ok(tree),
-        Err(porch_syntax::SourceFault::Refused(_)) => Err(SourceFault::Unbuilt),
-        Err(porch_syntax::SourceFault::NoMemory) => Err(SourceFault::NoMemory),
+        Ok(Some(tree)) => Ok(tree),
+        Ok(None) => Err(SourceFault::Unbuilt),
+        Err(_) => Err(SourceFault::NoMemory),
     }
 }
 
