@@ -15,5 +15,6 @@ int main(void)
             column = 0;
         }
     }
+    putchar(10);
     return 0;
 }
