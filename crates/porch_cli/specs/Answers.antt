@@ -5,10 +5,9 @@ use Rattle.std.specs.declared.option.Option.{Option}
 use Rattle.std.specs.declared.option.Option.TheVariants.{Some, None}
 use Rattle.porch_edge.specs.Causes.{Rose}
 use Rattle.porch_edge.specs.Streams.{Grew, GrewByPrefix}
-use Rattle.porch_syntax.specs.declared.refusal.Refusal.{Refusal}
-use Rattle.porch_syntax.specs.declared.refusal.SourceFault.TheVariants.{Refused}
+use Rattle.porch_lex.specs.declared.refusal.Refusal.{Refusal}
 use Rattle.porch_syntax.specs.Tree.{Program}
-use Rattle.porch_syntax.specs.Language.{IsSource, IsRefusal}
+use Rattle.porch_source.specs.Sources.{IsSourceOf, IsFirstFault, IsUnbuilt}
 use Rattle.porch_types.specs.Leaves.{kind_types}
 use Rattle.porch_values.specs.declared.acts.Act.{Act}
 use Rattle.porch_objects.specs.Meaning as meaning
@@ -40,10 +39,10 @@ HasRead None left' text = left' ≡ None
 HasRead (Some held) None text = ⊥
 HasRead (Some held) (Some rest) text = (held ≡ text ++ rest) × (length text ≤ 2 ^ 20 → rest ≡ [])
 
--- The text is that one program.
+-- The text is the source of that one program.
 pub record IsProgram (text : List ℕ) (p : Program) : Type 0 where
-  pub is : IsSource text p
-  pub only : (q : Program) → IsSource text q → q ≡ p
+  pub is : IsSourceOf text p
+  pub only : (q : Program) → IsSourceOf text q → q ≡ p
 
 -- The flat program of a tree: it is valid, has the tree's variables, and means what the tree means.
 pub record IsCompiled (p : Program) (flat : Flat) : Type 0 where
@@ -138,7 +137,9 @@ HasReason words c text (status.Paused turns) = HasRead c.left c.left' text × Ra
 HasReason words c text (status.StackFull asked left) = HasRead c.left c.left' text × ((turns : ℕ) × Ran words text c.held c.held' (StackFull asked left) turns)
 HasReason words c text status.Usage = ((turns : ℕ) → IsExec words turns → ⊥) × (c.left' ≡ c.left) × Grew c.held c.held' []
 HasReason words c text (status.Refused r) =
-    ((budget : ℕ) × IsExec words budget) × HasRead c.left c.left' text × ((p : Program) → IsSource text p → ⊥) × IsRefusal text (Refused r) × Grew c.held c.held' []
+    ((budget : ℕ) × IsExec words budget) × HasRead c.left c.left' text × IsFirstFault text r × Grew c.held c.held' []
+HasReason words c text status.Unbuilt =
+    ((budget : ℕ) × IsExec words budget) × HasRead c.left c.left' text × IsUnbuilt text × Grew c.held c.held' []
 HasReason words c text status.ReadFault = ((budget : ℕ) × IsExec words budget) × Rose c.read_faults c.read_faults' × Grew c.held c.held' []
 HasReason words c text status.WriteFault = HasRead c.left c.left' text × Rose c.write_faults c.write_faults' × RanInto words text c.held c.held'
 HasReason words c text status.NoMemory = ((budget : ℕ) × IsExec words budget) × Grew c.held c.held' []
@@ -169,13 +170,21 @@ pub record IsUsage (words : List (List ℕ)) (c : Changes) : Type 0 where
   pub unread : c.left' ≡ c.left
   pub unwritten : Grew c.held c.held' []
 
--- The source was read and is no program; nothing was written.
+-- The source was read, and this is the first rule that it breaks; nothing was written.
 pub record IsRefused (words : List (List ℕ)) (c : Changes) (r : Refusal) : Type 0 where
   pub text : List ℕ
   pub ordered : (budget : ℕ) × IsExec words budget
   pub read : HasRead c.left c.left' text
-  pub unlike : (p : Program) → IsSource text p → ⊥
-  pub refusal : IsRefusal text (Refused r)
+  pub fault : IsFirstFault text r
+  pub unwritten : Grew c.held c.held' []
+
+-- The source was read, breaks no rule that is looked at, and isn't in the part of the language that runs
+-- yet; nothing was written.
+pub record IsLeftUnbuilt (words : List (List ℕ)) (c : Changes) : Type 0 where
+  pub text : List ℕ
+  pub ordered : (budget : ℕ) × IsExec words budget
+  pub read : HasRead c.left c.left' text
+  pub unbuilt : IsUnbuilt text
   pub unwritten : Grew c.held c.held' []
 
 -- A beginning of the program's output was written, and a write of it or of the closing line failed; or nothing was
@@ -221,7 +230,7 @@ pub record IsRun (p : Program) (budget : ℕ) (answer : Status) : Type 0 where
 -- The words order a program to be run, a source tells it, and no count of faults rises: what is answered then.
 abbrev pub WhereOrdered : List (List ℕ) → Changes → ℕ → ℕ → (Program → ℕ → Type 0) → Type 0
 WhereOrdered words c faults faults' Answers =
-    (budget : ℕ) (text : List ℕ) (p : Program) → IsExec words budget → c.left ≡ Some text → IsSource text p
+    (budget : ℕ) (text : List ℕ) (p : Program) → IsExec words budget → c.left ≡ Some text → IsSourceOf text p
     → (Rose c.read_faults c.read_faults' → ⊥) → (Rose c.write_faults c.write_faults' → ⊥) → (Rose faults faults' → ⊥) → Answers p budget
 
 -- the end of the program's run, unless memory is refused
@@ -238,9 +247,26 @@ CompletesAsMeant words c faults faults' answer =
 abbrev pub Unordered : List (List ℕ) → ℕ → ℕ → Status → Type 0
 Unordered words faults faults' answer = ((turns : ℕ) → IsExec words turns → ⊥) → (answer ≡ status.Usage) ⊎ ((answer ≡ status.WriteFault) × Rose faults faults')
 
--- A source that tells no program is refused, unless a read fails, the line fails, or memory is refused.
+-- The words order a text to be run, a source tells it, and neither a read nor the closing line fails.
+abbrev pub WhereTold : List (List ℕ) → Changes → ℕ → ℕ → (List ℕ → Type 0) → Type 0
+WhereTold words c faults faults' Answers =
+    (budget : ℕ) (text : List ℕ) → IsExec words budget → c.left ≡ Some text
+    → (Rose c.read_faults c.read_faults' → ⊥) → (Rose faults faults' → ⊥) → Answers text
+
+-- A text that breaks a rule is refused with the first one that it breaks, unless memory is refused.
 abbrev pub Refuses : List (List ℕ) → Changes → ℕ → ℕ → Status → Type 0
 Refuses words c faults faults' answer =
-    (budget : ℕ) (text : List ℕ) → IsExec words budget → c.left ≡ Some text → ((p : Program) → IsSource text p → ⊥)
-    → (Rose c.read_faults c.read_faults' → ⊥) → (Rose faults faults' → ⊥)
-    → ((r : Refusal) × (answer ≡ status.Refused r)) ⊎ (answer ≡ status.NoMemory)
+    WhereTold words c faults faults' (λ text. (r : Refusal) → IsFirstFault text r
+    → (answer ≡ status.Refused r) ⊎ (answer ≡ status.NoMemory))
+
+-- One that breaks none and isn't in the part of the language that runs yet is left so.
+abbrev pub LeavesUnbuilt : List (List ℕ) → Changes → ℕ → ℕ → Status → Type 0
+LeavesUnbuilt words c faults faults' answer =
+    WhereTold words c faults faults' (λ text. IsUnbuilt text
+    → (answer ≡ status.Unbuilt) ⊎ (answer ≡ status.NoMemory))
+
+-- One that is the source of no program is either of these.
+abbrev pub Excludes : List (List ℕ) → Changes → ℕ → ℕ → Status → Type 0
+Excludes words c faults faults' answer =
+    WhereTold words c faults faults' (λ text. ((p : Program) → IsSourceOf text p → ⊥)
+    → ((r : Refusal) × (answer ≡ status.Refused r)) ⊎ (answer ≡ status.Unbuilt) ⊎ (answer ≡ status.NoMemory))

@@ -1,8 +1,8 @@
 -- The closing line of each status.
 use Rattle.std.specs.Prelude.{ℕ, ◌+◌, ◌==◌, List, [], ◌∷◌, ◌++◌, count_by, take, codes, if◌then◌else◌}
 use Rattle.std.specs.Fmt.{decimal, signed_decimal}
-use Rattle.porch_syntax.specs.declared.refusal.Rule.{Rule}
-use Rattle.porch_syntax.specs.declared.refusal.Rule.TheVariants as rule
+use Rattle.porch_lex.specs.declared.refusal.Rule.{Rule}
+use Rattle.porch_lex.specs.declared.refusal.Rule.TheVariants as rule
 use Rattle.porch_values.specs.declared.acts.Act.{Act}
 use Rattle.porch_values.specs.declared.acts.Act.TheVariants as act
 use Rattle.porch_cli.specs.declared.status.Status.{Status}
@@ -27,7 +27,6 @@ rule_name rule.Format = codes "Format"
 rule_name rule.StructValue = codes "StructValue"
 rule_name rule.NoMain = codes "NoMain"
 rule_name rule.TooLarge = codes "TooLarge"
-rule_name rule.Unbuilt = codes "Unbuilt"
 
 abbrev pub act_name : Act → List ℕ
 act_name act.Overflow = codes "Overflow"
@@ -60,6 +59,7 @@ abbrev pub said_of : List ℕ → Status → List ℕ
 said_of text (status.Done value turns) = codes "done " ++ signed_decimal value ++ codes " " ++ decimal turns
 said_of text status.Usage = codes "usage: porch exec, compile, start, resume, clear, vet, show, drill"
 said_of text (status.Refused r) = codes "refused " ++ rule_name r.rule ++ codes " " ++ decimal (line_at text r.at) ++ codes " " ++ decimal (column_at text r.at)
+said_of text status.Unbuilt = codes "refused Unbuilt 1 1"
 said_of text (status.Trap a turns) = codes "trap " ++ act_name a ++ codes " " ++ decimal turns
 said_of text (status.StackFull asked left) = codes "stack full " ++ decimal asked ++ codes " " ++ decimal left
 said_of text (status.Paused turns) = codes "paused " ++ decimal turns
@@ -75,6 +75,7 @@ abbrev pub number_of : Status → ℕ
 number_of (status.Done value turns) = 0
 number_of status.Usage = 1
 number_of (status.Refused r) = 2
+number_of status.Unbuilt = 2
 number_of (status.Trap a turns) = 3
 number_of (status.StackFull asked left) = 4
 number_of (status.Paused turns) = 5

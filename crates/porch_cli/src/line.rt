@@ -8,7 +8,7 @@ ghost use Rattle.porch_cli.specs.Lines.{rule_name, act_name, line_at, column_at,
 use crate::status::Status;
 use arrayvec::ArrayString;
 use itoa::Buffer;
-use porch_syntax::{Refusal, Rule};
+use porch_lex::{Refusal, Rule};
 use porch_values::Act;
 
 /// A line that is put together without memory. The longest has 67 bytes.
@@ -38,7 +38,6 @@ fn name_of_rule(rule: Rule) -> &'static str
         Rule::StructValue => "StructValue",
         Rule::NoMain => "NoMain",
         Rule::TooLarge => "TooLarge",
-        Rule::Unbuilt => "Unbuilt",
     }
 }
 
@@ -190,6 +189,7 @@ pub fn line_of_status(text: &[u8], status: Status) -> Line
             line_with("usage: porch exec, compile, start, resume, clear, vet, show, drill")
         }
         Status::Refused(refusal) => line_of_refusal(text, refusal),
+        Status::Unbuilt => line_with("refused Unbuilt 1 1"),
         Status::Trap { act, turns } => line_of_trap(act, turns),
         Status::StackFull { asked, left } => line_of_full_stack(asked, left),
         Status::Paused { turns } => line_of_pause(turns),

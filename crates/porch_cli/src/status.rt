@@ -3,7 +3,7 @@
 ghost use Rattle.std.specs.Prelude.{◌≡◌};
 ghost use Rattle.porch_cli.specs.Lines.{number_of};
 
-use porch_syntax::Refusal;
+use porch_lex::Refusal;
 use porch_values::Act;
 
 /// How a command ended.
@@ -15,6 +15,8 @@ pub enum Status {
     Usage,
     /// The source breaks a rule.
     Refused(Refusal),
+    /// The source breaks no rule that is looked at, and isn't in the part of the language that runs yet.
+    Unbuilt,
     /// The run met what its machine can't go on from, as an undefined act of the program.
     Trap { act: Act, turns: u64 },
     /// A frame of `asked` bytes doesn't fit the stack, of which `left` bytes are left.
@@ -36,7 +38,7 @@ pub fn number_of_status(status: Status) -> u8
     match status {
         Status::Done { .. } => 0,
         Status::Usage => 1,
-        Status::Refused(_) => 2,
+        Status::Refused(_) | Status::Unbuilt => 2,
         Status::Trap { .. } => 3,
         Status::StackFull { .. } => 4,
         Status::Paused { .. } => 5,

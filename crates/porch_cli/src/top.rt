@@ -3,11 +3,11 @@
 ghost use Rattle.std.specs.Prelude.{◌≡◌, ◌≤◌, ◌<◌, ◌+◌, ◌^◌, ◌⊎◌, ℕ, ℤ, length, []};
 ghost use Rattle.porch_edge.specs.Causes.{Rose};
 ghost use Rattle.porch_edge.specs.Streams.{Grew};
-ghost use Rattle.porch_syntax.specs.declared.refusal.Refusal.{Refusal};
+ghost use Rattle.porch_lex.specs.declared.refusal.Refusal.{Refusal};
 ghost use Rattle.porch_values.specs.declared.acts.Act.{Act};
 ghost use Rattle.porch_machine.specs.ByteRun.{Ended, Trap, StackFull, Paused};
 ghost use Rattle.porch_cli.specs.Lines.{line_of};
-ghost use Rattle.porch_cli.specs.Answers.{changes, texts, HasReason, Closes, HasAnswered, RanSource, IsUsage, IsRefused, IsWriteFault, Unordered, Refuses, Completes, CompletesAsMeant, HasLine, HasLinePrefix};
+ghost use Rattle.porch_cli.specs.Answers.{changes, texts, HasReason, Closes, HasAnswered, RanSource, IsUsage, IsRefused, IsLeftUnbuilt, IsWriteFault, Unordered, Refuses, LeavesUnbuilt, Excludes, Completes, CompletesAsMeant, HasLine, HasLinePrefix};
 ghost use Rattle.porch_cli.specs.inside.Parts.{RunsText, refused_for, stopped_for};
 
 use crate::compiled::run_tree;
@@ -17,15 +17,17 @@ use crate::status::Status;
 use crate::words::read_words;
 use porch_edge::{Sink, Source, write_all};
 use porch_lower::sources_are_lowerable;
-use porch_syntax::{SourceFault, parse};
+use porch_source::laws::a_text_has_one_answer;
+use porch_source::{SourceFault, read_program};
 use std::alloc::Global;
 
-/// The status of a text that has no tree.
+/// The status of a text that has no program.
 fn status_of_fault(fault: SourceFault) -> Status
     ensures { result ≡ refused_for fault }
 {
     match fault {
         SourceFault::Refused(refusal) => Status::Refused(refusal),
+        SourceFault::Unbuilt => Status::Unbuilt,
         SourceFault::NoMemory => Status::NoMemory,
     }
 }
@@ -40,14 +42,14 @@ fn status_of_stop(stop: ReadStop) -> Status
     }
 }
 
-/// Runs the program that a text is, for at most so many turns.
+/// Runs the program that a text is the source of, for at most so many turns.
 fn run_text<O: Sink>(alloc: Global, text: &[u8], turns: u64, out: &mut O) -> Status
     requires { turns ≤ 2 ^ 62 }
     ensures runs { RunsText text.now turns
         (O.held out.old) (O.held out.new) (O.faults out.old) (O.faults out.new) result }
     ensures later { O.faults out.old ≤ O.faults out.new }
 {
-    match parse(alloc, text) {
+    match read_program(alloc, text) {
         Ok(tree) => {
             sources_are_lowerable();
             run_tree(alloc, &tree, turns, out)
@@ -132,6 +134,8 @@ pub fn porch<S: Source, O: Sink, E: Sink>(
     ensures refused { (refusal : Refusal) → result ≡ Status.Refused refusal
         → IsRefused (texts words.now)
         (changes S.left S.faults source.old source.new O.held O.faults out.old out.new) refusal }
+    ensures unbuilt { result ≡ Status.Unbuilt → IsLeftUnbuilt (texts words.now)
+        (changes S.left S.faults source.old source.new O.held O.faults out.old out.new) }
     ensures read_fault { result ≡ Status.ReadFault
         → Rose (S.faults source.old) (S.faults source.new)
         × Grew (O.held out.old) (O.held out.new) [] }
@@ -144,6 +148,12 @@ pub fn porch<S: Source, O: Sink, E: Sink>(
     // The other way round: no answer is given up, unless memory is refused.
     ensures unordered { Unordered (texts words.now) (E.faults err.old) (E.faults err.new) result }
     ensures refuses { Refuses (texts words.now)
+        (changes S.left S.faults source.old source.new O.held O.faults out.old out.new)
+        (E.faults err.old) (E.faults err.new) result }
+    ensures leaves_unbuilt { LeavesUnbuilt (texts words.now)
+        (changes S.left S.faults source.old source.new O.held O.faults out.old out.new)
+        (E.faults err.old) (E.faults err.new) result }
+    ensures excludes { Excludes (texts words.now)
         (changes S.left S.faults source.old source.new O.held O.faults out.old out.new)
         (E.faults err.old) (E.faults err.new) result }
     ensures completes { Completes (texts words.now)
@@ -164,6 +174,7 @@ pub fn porch<S: Source, O: Sink, E: Sink>(
         (changes S.left S.faults source.old source.new O.held O.faults out.old out.new)
         (E.held err.old) (E.held err.new)) }
 {
+    a_text_has_one_answer();
     let mut text = Vec::new(alloc);
     let status = work(alloc, words, source, out, &mut text);
     close(text.as_slice(), status, err)

@@ -1,8 +1,11 @@
 -- The text that is read is a program, and each program is read.
 use Rattle.std.proofs.Common.{◌≡◌, ℕ, ◌≤◌, ◌^◌, List, [], length, Option, Some, None, refl, sym, ap, subst, ◌∙◌}
+use Rattle.std.specs.Prelude.{Result, Ok, Err, IfOk, IfSome}
+use Rattle.std.specs.declared.alloc.AllocError.{AllocError}
 use Rattle.std.specs.Option.{option_map}
 use Rattle.porch_syntax.specs.declared.token.Token.{Token}
-use Rattle.porch_syntax.specs.Tree.{Program}
+use Rattle.porch_syntax.specs.declared.tree.Tree.{Tree}
+use Rattle.porch_syntax.specs.Tree.{Program, program_of}
 use Rattle.porch_syntax.specs.Token.{Spells}
 use Rattle.porch_syntax.specs.Language.{unit_tokens, IsSource}
 use Rattle.porch_syntax.specs.inside.Lexing.{Lexed, lex}
@@ -41,16 +44,22 @@ parses text p h =
     (subst (λ (m : ℕ). Numbered 0 m (unit_tokens p)) (sym h.counted) (program_number p h.declared h.stated)))
     ∙ complete p h.declared h.stated
 
--- what the code answers where it has a tree, and where it has none
-pub tree_read : (text : List ℕ) (o : Option Program) (p : Program) → length text ≤ 2 ^ 20 → o ≡ source_of text → o ≡ Some p → IsSource text p
-tree_read text o p h e f = parsed text p h (sym e ∙ f)
+-- what the code answers
+tree_read : (text : List ℕ) (found : Option Tree) → length text ≤ 2 ^ 20 → option_map program_of found ≡ source_of text → IfSome found (λ tree. IsSource text (program_of tree))
+tree_read text None h e = tt
+tree_read text (Some tree) h e = parsed text (program_of tree) h (sym e)
 
-pub tree_only : (text : List ℕ) (o : Option Program) (p q : Program) → o ≡ source_of text → o ≡ Some p → IsSource text q → p ≡ q
-tree_only text o p q e f s =
-    let both : Some p ≡ Some q = sym f ∙ e ∙ parses text q s in
-    cc
+pub text_read : (text : List ℕ) (r : Result (Option Tree) AllocError) → length text ≤ 2 ^ 20 → IfOk r (λ found. option_map program_of found ≡ source_of text)
+    → IfOk r (λ found. IfSome found (λ tree. IsSource text (program_of tree)))
+text_read text (Ok found) h e = tree_read text found h e
+text_read text (Err x) h e = tt
 
-pub none_read : (text : List ℕ) (o : Option Program) (q : Program) → o ≡ source_of text → o ≡ None → IsSource text q → ⊥
-none_read text o q e f s =
-    let both : None ≡ Some q = sym f ∙ e ∙ parses text q s in
+pub text_only : (text : List ℕ) (r : Result (Option Tree) AllocError) → IfOk r (λ found. option_map program_of found ≡ source_of text)
+    → IfOk r (λ found. (p : Program) → IsSource text p → option_map program_of found ≡ Some p)
+text_only text (Ok found) e = λ p s. e ∙ parses text p s
+text_only text (Err x) e = tt
+
+pub one_program : (text : List ℕ) (p q : Program) → IsSource text p → IsSource text q → p ≡ q
+one_program text p q a b =
+    let both : Some p ≡ Some q = sym (parses text p a) ∙ parses text q b in
     cc

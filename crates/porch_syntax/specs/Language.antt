@@ -4,9 +4,6 @@ use Rattle.porch_syntax.specs.declared.token.Token.{Token}
 use Rattle.porch_syntax.specs.declared.token.Token.TheVariants as token
 use Rattle.porch_syntax.specs.declared.tree.Sign.{Sign}
 use Rattle.porch_syntax.specs.declared.tree.Sign.TheVariants as sign
-use Rattle.porch_syntax.specs.declared.refusal.Rule.TheVariants.{TooLarge, Unbuilt}
-use Rattle.porch_syntax.specs.declared.refusal.SourceFault.{SourceFault}
-use Rattle.porch_syntax.specs.declared.refusal.SourceFault.TheVariants.{Refused, NoMemory}
 use Rattle.porch_syntax.specs.Tree.{Node, variable, whole, character, nested, product, sum, less, Nodes, no_nodes, node, Terms, no_terms, term, Action, assign, repeat, putchar, give, Actions, no_actions, action, Program}
 use Rattle.porch_syntax.specs.Token.{is_name, reserved, Spells}
 
@@ -167,9 +164,3 @@ pub record IsSource (text : List ℕ) (p : Program) : Type 0 where
   pub spelled : Spells names text (unit_tokens p)
   pub declared : AreDecls 200 0 p.declarations
   pub stated : AreStmts (length p.declarations) 200 p.actions
-
--- what a text that isn't in the language is refused with
-abbrev pub IsRefusal : List ℕ → SourceFault → Type 0
-IsRefusal text NoMemory = ⊥
-IsRefusal text (Refused r) =
-    (r.at ≡ 0) × (2 ^ 20 < length text → r.rule ≡ TooLarge) × (length text ≤ 2 ^ 20 → r.rule ≡ Unbuilt)

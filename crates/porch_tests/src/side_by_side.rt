@@ -43,14 +43,14 @@ fn layout_of_bytes() -> Layout
 /// The flat program of a text, if it has one.
 fn valid_of(alloc: Global, text: &[u8]) -> Option<Valid> {
     match parse(alloc, text) {
-        Ok(tree) => {
+        Ok(Some(tree)) => {
             sources_are_lowerable();
             match lower(alloc, &tree) {
                 Ok(plain) => Valid::new(alloc, plain.into_flat()).ok(),
                 Err(_) => None,
             }
         }
-        Err(_) => None,
+        Ok(None) | Err(_) => None,
     }
 }
 

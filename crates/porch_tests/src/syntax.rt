@@ -1,6 +1,6 @@
-//! What no clause says of the parser: that it succeeds on programs with ample memory, worked refusals, and its limits.
+//! What no clause says of the parser: that it succeeds on programs with ample memory, worked texts that aren't programs, and its limits.
 
-use porch_syntax::{Refusal, Rule, SourceFault, parse};
+use porch_syntax::parse;
 use std::alloc::{AllocError, Global};
 use std::process::Abort;
 
@@ -8,25 +8,15 @@ use std::process::Abort;
 #[derive(Clone, Copy, Debug, PartialEq, Eq)]
 enum Answer {
     Tree,
-    Refused(Refusal),
+    NoTree,
     NoMemory,
 }
 
-const UNBUILT: Answer = Answer::Refused(Refusal {
-    at: 0,
-    rule: Rule::Unbuilt,
-});
-
-const TOO_LARGE: Answer = Answer::Refused(Refusal {
-    at: 0,
-    rule: Rule::TooLarge,
-});
-
 fn answer_to(alloc: Global, text: &[u8]) -> Answer {
     match parse(alloc, text) {
-        Ok(_) => Answer::Tree,
-        Err(SourceFault::Refused(refusal)) => Answer::Refused(refusal),
-        Err(SourceFault::NoMemory) => Answer::NoMemory,
+        Ok(Some(_)) => Answer::Tree,
+        Ok(None) => Answer::NoTree,
+        Err(_) => Answer::NoMemory,
     }
 }
 
@@ -104,16 +94,16 @@ static OTHER_TEXTS: [&str; 25] = [
 ];
 
 #[test]
-fn refuses_other_texts(rt: HostRuntime) {
-    expect_answers(&rt, rt.alloc(), &OTHER_TEXTS, UNBUILT);
+fn other_texts_have_no_tree(rt: HostRuntime) {
+    expect_answers(&rt, rt.alloc(), &OTHER_TEXTS, Answer::NoTree);
 }
 
 /// How many parentheses and spaces, and the answer.
 static LIMITS: [(usize, usize, Answer); 4] = [
     (198, 0, Answer::Tree),
-    (199, 0, UNBUILT),
+    (199, 0, Answer::NoTree),
     (0, 1048551, Answer::Tree),
-    (0, 1048552, TOO_LARGE),
+    (0, 1048552, Answer::NoTree),
 ];
 
 fn answer_to_padded(

@@ -3,7 +3,7 @@
 
 use porch_cli::{Status, close, number_of_status, porch};
 use porch_edge::{Failed, MemSink, MemSource, Sink, Source};
-use porch_syntax::{Refusal, Rule};
+use porch_lex::{Refusal, Rule};
 use porch_values::Act;
 use std::alloc::{AllocError, Global};
 use std::process::Abort;
@@ -68,7 +68,7 @@ type Row = (
     u8,
 );
 
-static PROGRAMS: [Row; 12] = [
+static PROGRAMS: [Row; 15] = [
     (
         &["exec"],
         "int main(void){putchar('A');return 0;}",
@@ -135,6 +135,27 @@ static PROGRAMS: [Row; 12] = [
         "done 2 7\n",
         0,
     ),
+    (
+        &["exec"],
+        "#include <stdio.h>\n\t# include \"porch.h\" \n/* Shows\n   A. */\nint main(void)\n{\n    putchar('A'); /* a * and a \" */\n}\n",
+        "A",
+        "done 0 1\n",
+        0,
+    ),
+    (
+        &["exec"],
+        "int/**/main(void){int a/*=*/=/***/20;return a/**/-/*1;}*/3;}/* the end */",
+        "",
+        "done 17 1\n",
+        0,
+    ),
+    (
+        &["exec"],
+        "int main(void){putchar('/');putchar('*');/* don't */putchar('\"');return 0;}",
+        "/*\"",
+        "done 0 1\n",
+        0,
+    ),
 ];
 
 #[test]
@@ -147,39 +168,83 @@ fn programs_run(rt: HostRuntime) -> Result<(), Fail> {
     Ok(())
 }
 
-static REFUSED: [&str; 20] = [
-    "",
-    "\0",
-    "int main(void){return 0;}\0",
-    "int main(void){return 2147483648;}",
-    "int main(void){return 01;}",
-    "int main(void){return 1a;}",
-    "int main(void){return ''';}",
-    "int main(void){return '\\n';}",
-    "int main(void){x=1;int x;return 0;}",
-    "int main(void){int y=x;int x;return 0;}",
-    "int main(void){int x;int x;return 0;}",
-    "int main(void){int while;return 0;}",
-    "int main(void){int auto;return 0;}",
-    "int main(void){int putchar;return 0;}",
-    "int main(void){return 0;} /* ",
-    "int main(void){return 1<2<3;}",
-    "int main(void){return 0}",
-    "int main(){return 0;}",
-    "int main(void){return 0;}}",
-    "intmain(void){return 0;}",
+/// Texts that break a rule, and the rule with its line and column.
+static REFUSED: [(&str, &str); 29] = [
+    ("int x;\n  @", "Byte 2 3"),
+    ("\0", "Byte 1 1"),
+    ("int main(void){return 0;}\0", "Byte 1 26"),
+    ("/* why */ #include <stdio.h>\n", "Byte 1 11"),
+    ("int main(void){return 1a;}", "Word 1 23"),
+    ("int main(void){return 08;}", "Word 1 23"),
+    ("int main(void){return ''';}", "Word 1 23"),
+    ("int main(void){return 0;} /* ", "Word 1 27"),
+    ("int main(void){return 2147483648;}", "WideConstant 1 23"),
+    (
+        "\n\n \t# include <string.h>\nint main(void){return 0;}",
+        "Outside 3 3",
+    ),
+    (
+        "#include <stdio.h> /* why */\nint main(void){return 0;}",
+        "Outside 1 1",
+    ),
+    ("int main(void){goto out;}", "Outside 1 16"),
+    ("int main(void){int auto;return 0;}", "Outside 1 20"),
+    ("int main(void){static int x;return 0;}", "Outside 1 16"),
+    (
+        "int main(void){struct s {int x;} y;return 0;}",
+        "Outside 1 16",
+    ),
+    ("int main(void){int while;return 0;}", "Syntax 1 20"),
+    ("int main(void){x=1;int x;return 0;}", "Syntax 1 20"),
+    ("int main(void)\n{\n    return 0\n}\n", "Syntax 4 1"),
+    ("int main(void){return 0;}}", "Syntax 1 26"),
+    ("int main(void)\n{\n    return 0;\n", "Syntax 4 1"),
+    ("intmain(void){return 0;}", "Syntax 1 1"),
+    ("int ma/**/in(void){return 0;}", "Syntax 1 11"),
+    ("int main(void){return 1/**/2;}", "Syntax 1 28"),
+    ("float $", "Byte 1 7"),
+    ("goto 08", "Word 1 6"),
+    ("} 2147483648", "WideConstant 1 3"),
+    ("}\n#define A", "Outside 2 1"),
+    ("} float", "Syntax 1 1"),
+    ("float }", "Outside 1 1"),
 ];
 
 #[test]
-fn other_texts_are_refused(rt: HostRuntime) -> Result<(), Fail> {
-    let refusal = Refusal {
-        at: 0,
-        rule: Rule::Unbuilt,
-    };
-    for text in &REFUSED {
+fn the_first_broken_rule_is_named(rt: HostRuntime) -> Result<(), Fail> {
+    for (text, rule) in &REFUSED {
+        let line = format!(in rt.alloc(); "refused {rule}\n")?;
+        let got = answer_of_exec(rt.alloc(), text.as_bytes())?;
+        expect_bytes(&rt, &got, "", line.as_str(), text);
+        assert_eq!(rt; number_of_status(got.status), 2, "{text}");
+    }
+    Ok(())
+}
+
+/// Texts that break no rule that is looked at, and aren't in the part of the language that runs yet.
+static UNBUILT: [&str; 13] = [
+    "",
+    "int main(void){return 01;}",
+    "int main(void){return 0x1;}",
+    "int main(void){return 1u;}",
+    "int main(void){return '\\n';}",
+    "int main(void){return x;}",
+    "int main(void){int y=x;int x;return 0;}",
+    "int main(void){int x;int x;return 0;}",
+    "int main(void){int putchar;return 0;}",
+    "int main(void){return 1<2<3;}",
+    "int main(){return 0;}",
+    "int main(void){return 1-/**/-1;}",
+    "int main(void){return \"one\"[0];}",
+];
+
+#[test]
+fn other_texts_are_not_built_yet(rt: HostRuntime) -> Result<(), Fail> {
+    for text in &UNBUILT {
         let got = answer_of_exec(rt.alloc(), text.as_bytes())?;
         expect_bytes(&rt, &got, "", "refused Unbuilt 1 1\n", text);
-        assert_eq!(rt; got.status, Status::Refused(refusal), "{text}");
+        assert_eq!(rt; got.status, Status::Unbuilt, "{text}");
+        assert_eq!(rt; number_of_status(got.status), 2, "{text}");
     }
     Ok(())
 }

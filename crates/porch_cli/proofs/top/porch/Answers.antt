@@ -1,4 +1,4 @@
-use Rattle.porch_cli.proofs.Reasons.{has_done, has_trap, has_stack_full, has_paused, has_usage, has_refused, has_read_fault, has_no_memory, has_write_fault, has_written, has_unordered, has_refuses, has_completes, has_completes_as_meant, has_line, has_line_or_prefix}
+use Rattle.porch_cli.proofs.Reasons.{has_done, has_trap, has_stack_full, has_paused, has_usage, has_refused, has_left_unbuilt, has_read_fault, has_no_memory, has_write_fault, has_written, has_unordered, has_refuses, has_leaves_unbuilt, has_excludes, has_completes, has_completes_as_meant, has_line, has_line_or_prefix, one_answer}
 use Rattle.porch_cli.proofs.top.porch.Goals as goal
 
 -- the reason that the work gave, and the line that was written
@@ -28,6 +28,9 @@ returns-clause-usage g c = has_usage _ _ _ _ _ _ _ (answered g c)
 pub returns-clause-refused : goal.returns-clause-refused
 returns-clause-refused g c = has_refused _ _ _ _ _ _ _ (answered g c)
 
+pub returns-clause-unbuilt : goal.returns-clause-unbuilt
+returns-clause-unbuilt g c = has_left_unbuilt _ _ _ _ _ _ _ (answered g c)
+
 pub returns-clause-read_fault : goal.returns-clause-read_fault
 returns-clause-read_fault g c = has_read_fault _ _ _ _ _ _ _ (answered g c)
 
@@ -44,13 +47,19 @@ pub returns-clause-unordered : goal.returns-clause-unordered
 returns-clause-unordered g c = has_unordered _ _ _ _ _ _ _ (answered g c)
 
 pub returns-clause-refuses : goal.returns-clause-refuses
-returns-clause-refuses g c = has_refuses _ _ _ _ _ _ _ (answered g c)
+returns-clause-refuses g c = has_refuses _ _ _ _ _ _ _ (answered g c) (let law = c.a_text_has_one_answer.ensures in one_answer law.fault law.program_or_fault law.program_or_unbuilt law.unbuilt_or_fault)
+
+pub returns-clause-leaves_unbuilt : goal.returns-clause-leaves_unbuilt
+returns-clause-leaves_unbuilt g c = has_leaves_unbuilt _ _ _ _ _ _ _ (answered g c) (let law = c.a_text_has_one_answer.ensures in one_answer law.fault law.program_or_fault law.program_or_unbuilt law.unbuilt_or_fault)
+
+pub returns-clause-excludes : goal.returns-clause-excludes
+returns-clause-excludes g c = has_excludes _ _ _ _ _ _ _ (answered g c)
 
 pub returns-clause-completes : goal.returns-clause-completes
-returns-clause-completes g c = has_completes _ _ _ _ _ _ _ (answered g c)
+returns-clause-completes g c = has_completes _ _ _ _ _ _ _ (answered g c) (let law = c.a_text_has_one_answer.ensures in one_answer law.fault law.program_or_fault law.program_or_unbuilt law.unbuilt_or_fault)
 
 pub returns-clause-completes_as_meant : goal.returns-clause-completes_as_meant
-returns-clause-completes_as_meant g c = has_completes_as_meant _ _ _ _ _ _ _ (answered g c)
+returns-clause-completes_as_meant g c = has_completes_as_meant _ _ _ _ _ _ _ (answered g c) (let law = c.a_text_has_one_answer.ensures in one_answer law.fault law.program_or_fault law.program_or_unbuilt law.unbuilt_or_fault)
 
 pub returns-clause-closing : goal.returns-clause-closing
 returns-clause-closing g c = has_line _ _ _ _ _ _ _ (answered g c)

@@ -5,7 +5,7 @@ use Rattle.porch_cli.proofs.Reasons.{run_ended, run_refused}
 use Rattle.porch_cli.proofs.top.run_text.Goals as goal
 
 pub run_tree-requires-clause-lowerable : goal.run_tree-requires-clause-lowerable
-run_tree-requires-clause-lowerable g c = c.sources_are_lowerable.ensures c.args.text.now (program_of c.in-Ok.tree) c.in-Ok.ensures.read
+run_tree-requires-clause-lowerable g c = c.sources_are_lowerable.ensures _ (program_of c.in-Ok.tree) c.in-Ok.ensures.read.program
 
 pub returns-in-Ok-clause-runs : goal.returns-in-Ok-clause-runs
 returns-in-Ok-clause-runs g c =
@@ -14,4 +14,4 @@ returns-in-Ok-clause-runs g c =
 
 pub returns-in-Err-clause-runs : goal.returns-in-Err-clause-runs
 returns-in-Err-clause-runs g c =
-    rw c.status_of_fault.ensures (run_refused c.args.text.now c.args.turns (g.O.Sink.held c.args.out.now) (g.O.Sink.faults c.args.out.now) c.in-Err.fault c.in-Err.ensures.only c.in-Err.ensures.refused)
+    rw c.status_of_fault.ensures (run_refused c.args.text.now c.args.turns (g.O.Sink.held c.args.out.now) (g.O.Sink.faults c.args.out.now) c.in-Err.fault c.in-Err.ensures.refused)

@@ -1,14 +1,9 @@
-use Rattle.std.proofs.Common.{ap, arith}
-use Rattle.std.specs.Option.{option_map}
-use Rattle.porch_syntax.specs.Tree.{program_of}
-use Rattle.porch_syntax.proofs.Parses.{tree_read, tree_only, none_read}
+use Rattle.std.proofs.Common.{arith}
+use Rattle.porch_syntax.proofs.Parses.{text_read, text_only}
 use Rattle.porch_syntax.proofs.parser.parse.Goals as goal
 
-pub returns-in-Some-clause-read : goal.returns-in-Some-clause-read
-returns-in-Some-clause-read c = tree_read c.args.text.now _ _ (omega arith) c.in_ok-tree.ensures (ap (option_map program_of) c.in-Some.is)
+pub returns-else-text-gt-MOST_BYTES-clause-read : goal.returns-else-text-gt-MOST_BYTES-clause-read
+returns-else-text-gt-MOST_BYTES-clause-read c = text_read c.args.text.now c.read.result (omega arith) c.read.ensures
 
-pub returns-in-Some-clause-only : goal.returns-in-Some-clause-only
-returns-in-Some-clause-only c = λ p s. tree_only c.args.text.now _ _ p c.in_ok-tree.ensures (ap (option_map program_of) c.in-Some.is) s
-
-pub returns-in-None-clause-only : goal.returns-in-None-clause-only
-returns-in-None-clause-only c = λ p s. absurd (none_read c.args.text.now _ p c.in_ok-tree.ensures (ap (option_map program_of) c.in-None.is) s)
+pub returns-else-text-gt-MOST_BYTES-clause-only : goal.returns-else-text-gt-MOST_BYTES-clause-only
+returns-else-text-gt-MOST_BYTES-clause-only c = text_only c.args.text.now c.read.result c.read.ensures

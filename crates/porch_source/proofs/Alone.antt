@@ -1,0 +1,127 @@
+-- What a text is answered with is one thing.
+use Rattle.std.proofs.Common.{◌≡◌, ◌≤◌, ◌<◌, ℕ, true, false, zero, suc, List, [], ◌∷◌, map, drop, length, Option, Some, None, IsTrue, slice_get, refl, sym, subst, ap, ◌∙◌, inl, inr, arith}
+use Rattle.std.proofs.lemmas.Bool.{cases_order}
+use Rattle.porch_tree.specs.Pieces.{Spelled, unit_pieces}
+use Rattle.porch_tree.specs.Grammar.{Fault, IsDeepUnit, IsReach, Halts, at_outside, at_stop, at_unit, IsOutside, Stops, at_token, at_end, place_of, inside_at, is_outside}
+use Rattle.porch_tree.specs.Mirror.{TranslationUnit}
+use Rattle.porch_lex.specs.declared.refusal.Rule.{Rule}
+use Rattle.porch_lex.specs.declared.refusal.Refusal.{Refusal}
+use Rattle.porch_lex.specs.declared.token.Token.{Token}
+use Rattle.porch_lex.specs.Tokens.{IsTokens, IsFirstLexFault}
+use Rattle.porch_lex.specs.Words.{spelled}
+use Rattle.porch_syntax.specs.Tree.{Program}
+use Rattle.porch_syntax.specs.Language.{IsSource}
+use Rattle.porch_source.specs.Comments.{without_comments}
+use Rattle.porch_source.specs.Sources.{IsAccepted, IsSourceOf, IsUnbuilt, IsGrammarFault, IsFirstFault, in_tokens, in_grammar, rule_of}
+
+nothing_left : {A : Type 0} → (n : ℕ) (xs : List A) → length xs ≤ n → drop n xs ≡ []
+nothing_left zero [] h = refl
+nothing_left (suc n) [] h = refl
+nothing_left zero (x ∷ xs) h = absurd (omega (arith, h))
+nothing_left (suc n) (x ∷ xs) h = nothing_left n xs (omega (arith, h))
+
+-- Each place is within the tokens.
+outside_past : (ts : List Spelled) (i : ℕ) → IsOutside ts i → length ts ≤ i → ⊥
+outside_past ts i o h =
+    let none : map (λ t. t.word) (drop i ts) ≡ [] = ap (map (λ t. t.word)) (nothing_left i ts h) in
+    let k : false ≡ true = subst (λ ws. IsTrue (is_outside (inside_at (slice_get (unit_pieces o.unit) i)) ws)) none o.outside in
+    cc
+
+stops_within : (ts : List Spelled) (i : ℕ) → Stops ts i → i ≤ length ts
+stops_within ts i (at_token l b n) = omega arith
+stops_within ts i (at_end e b n) = omega arith
+
+halts_past : (ts : List Spelled) (i : ℕ) (f : Option Fault) → Halts ts i f → length ts < i → ⊥
+halts_past ts i f (at_outside o) h = outside_past ts i o (omega arith)
+halts_past ts i f (at_stop s n) h = let l = stops_within ts i s in omega arith
+halts_past ts i f (at_unit e u d) h = omega arith
+
+-- Nothing is found further on.
+not_further : (ts : List Spelled) (p q : ℕ) (f g : Option Fault) → Halts ts p f → IsReach ts q g → p < q → ⊥
+not_further ts p q f g (at_outside o) r h = r.first p h (inl o)
+not_further ts p q f g (at_stop s n) r h = r.first p h (inr s)
+not_further ts p q f g (at_unit e u d) r h = halts_past ts q g r.halts (omega arith)
+
+-- At one place one thing is found.
+not_both : (ts : List Spelled) (p : ℕ) (u : TranslationUnit) → p ≡ length ts → IsDeepUnit ts u → Stops ts p → ⊥
+not_both ts p u e d (at_token l b n) = omega arith
+not_both ts p u e d (at_end k b n) = n u d
+
+one_halt : (ts : List Spelled) (p : ℕ) (f g : Option Fault) → Halts ts p f → Halts ts p g → f ≡ g
+one_halt ts p f g (at_outside o) (at_outside o') = refl
+one_halt ts p f g (at_outside o) (at_stop s n) = absurd (n o)
+one_halt ts p f g (at_outside o) (at_unit e u d) = absurd (outside_past ts p o (omega arith))
+one_halt ts p f g (at_stop s n) (at_outside o) = absurd (n o)
+one_halt ts p f g (at_stop s n) (at_stop s' n') = refl
+one_halt ts p f g (at_stop s n) (at_unit e u d) = absurd (not_both ts p u e d s)
+one_halt ts p f g (at_unit e u d) (at_outside o) = absurd (outside_past ts p o (omega arith))
+one_halt ts p f g (at_unit e u d) (at_stop s n) = absurd (not_both ts p u e d s)
+one_halt ts p f g (at_unit e u d) (at_unit e' u' d') = refl
+
+same_place : (ts : List Spelled) (p q : ℕ) (f g : Option Fault) → IsReach ts p f → IsReach ts q g → p ≡ q
+same_place ts p q f g a b =
+    elim (cases_order p q) [
+      | inl e ↦ e
+      | inr o ↦ elim o [
+        | inl h ↦ absurd (not_further ts p q f g a.halts b h)
+        | inr h ↦ absurd (not_further ts q p g f b.halts a h)
+      ]
+    ]
+
+same_fault : (ts : List Spelled) (p q : ℕ) (f g : Option Fault) → IsReach ts p f → IsReach ts q g → f ≡ g
+same_fault ts p q f g a b =
+    one_halt ts q f g (subst (λ i. Halts ts i f) (same_place ts p q f g a b) a.halts) b.halts
+
+refusal_is : (r s : Refusal) → r.at ≡ s.at → r.rule ≡ s.rule → r ≡ s
+refusal_is r s a b =
+    let make : ℕ → Rule → Refusal = λ at rule. record { at = at; rule = rule } in
+    ap (λ at. make at r.rule) a ∙ ap (λ rule. make s.at rule) b
+
+grammar_fault_alone : (text : List ℕ) (ts : List Token) (r s : Refusal) → IsGrammarFault text ts r → IsGrammarFault text ts s → r ≡ s
+grammar_fault_alone text ts r s a b =
+    let same : Some a.fault ≡ Some b.fault = same_fault (spelled text ts) a.token b.token (Some a.fault) (Some b.fault) a.found b.found in
+    let fault : a.fault ≡ b.fault = cc in
+    refusal_is r s
+    (a.place ∙ ap (λ i. place_of (length text) (slice_get (spelled text ts) i)) (same_place (spelled text ts) a.token b.token (Some a.fault) (Some b.fault) a.found b.found) ∙ sym b.place)
+    (a.rule ∙ ap rule_of fault ∙ sym b.rule)
+
+accepted_faultless : (text : List ℕ) (ts : List Token) (r : Refusal) → IsAccepted text ts → IsGrammarFault text ts r → ⊥
+accepted_faultless text ts r a b =
+    let same : None ≡ Some b.fault = same_fault (spelled text ts) (length (spelled text ts)) b.token None (Some b.fault) a.unit b.found in
+    cc
+
+-- What holds of the tokens of a text, and of the programs of the language that runs.
+pub record Alone : Type 0 where
+  pub tokens : (text : List ℕ) (ts us : List Token) → IsTokens text ts → IsTokens text us → ts ≡ us
+  pub fault : (text : List ℕ) (r s : Refusal) → IsFirstLexFault text r → IsFirstLexFault text s → r ≡ s
+  pub either : (text : List ℕ) (ts : List Token) (r : Refusal) → IsTokens text ts → IsFirstLexFault text r → ⊥
+  pub program : (text : List ℕ) (p q : Program) → IsSource text p → IsSource text q → p ≡ q
+
+module _ (alone : Alone) (text : List ℕ) where
+  pub one_program : (p q : Program) → IsSourceOf text p → IsSourceOf text q → p ≡ q
+  one_program p q a b =
+      let same = alone.tokens text a.tokens b.tokens a.accepted.tokens b.accepted.tokens in
+      alone.program (without_comments text b.tokens) p q (subst (λ ts. IsSource (without_comments text ts) p) same a.program) b.program
+
+  pub one_fault : (r s : Refusal) → IsFirstFault text r → IsFirstFault text s → r ≡ s
+  one_fault r s (in_tokens a) (in_tokens b) = alone.fault text r s a b
+  one_fault r s (in_tokens a) (in_grammar us t b) = absurd (alone.either text us r t a)
+  one_fault r s (in_grammar ts t a) (in_tokens b) = absurd (alone.either text ts s t b)
+  one_fault r s (in_grammar ts t a) (in_grammar us t' b) =
+      grammar_fault_alone text us r s (subst (λ vs. IsGrammarFault text vs r) (alone.tokens text ts us t t') a) b
+
+  accepted_or_fault : (ts : List Token) (r : Refusal) → IsAccepted text ts → IsFirstFault text r → ⊥
+  accepted_or_fault ts r a (in_tokens b) = alone.either text ts r a.tokens b
+  accepted_or_fault ts r a (in_grammar us t b) =
+      accepted_faultless text ts r a (subst (λ vs. IsGrammarFault text vs r) (alone.tokens text us ts t a.tokens) b)
+
+  pub program_or_fault : (p : Program) (r : Refusal) → IsSourceOf text p → IsFirstFault text r → ⊥
+  program_or_fault p r a b = accepted_or_fault a.tokens r a.accepted b
+
+  pub unbuilt_or_fault : (r : Refusal) → IsUnbuilt text → IsFirstFault text r → ⊥
+  unbuilt_or_fault r a b = accepted_or_fault a.tokens r a.accepted b
+
+  pub program_or_unbuilt : (p : Program) → IsSourceOf text p → IsUnbuilt text → ⊥
+  program_or_unbuilt p a b =
+      let same = alone.tokens text a.tokens b.tokens a.accepted.tokens b.accepted.tokens in
+      b.unlike p (subst (λ ts. IsSource (without_comments text ts) p) same a.program)
