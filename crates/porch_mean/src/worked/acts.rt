@@ -1,0 +1,34 @@
+//! Each undefined act, and what is none beside it.
+
+ghost use Rattle.porch_mean.specs.worked.Acts.{MeetsOverflow, LeastHasNoRemainder, MeetsDivide, MeetsShift, ShiftsByWidth, MeetsNarrow, ConvertsFirst, ReadsNoValue, ReadsItself, MeetsAccess, MeetsRow, MeetsRelation, MeetsCompare, MeetsFree, MeetsCount, PointersEndWithTheirObject};
+
+/// Acts of integers, among them those that depend on the width of long.
+#[tactic(auto, unfolding(crate::specs::Mean::enter_to))]
+pub fn integers_meet_acts()
+    ensures overflow { MeetsOverflow }
+    ensures remainder { LeastHasNoRemainder }
+    ensures divide { MeetsDivide }
+    ensures shift { MeetsShift }
+    ensures shift_by_width { ShiftsByWidth }
+    ensures narrow { MeetsNarrow }
+    ensures conversion { ConvertsFirst }
+{}
+
+/// A value that isn't there is read.
+#[tactic(auto, unfolding(crate::specs::Mean::enter_to))]
+pub fn values_are_missing()
+    ensures never_given { ReadsNoValue }
+    ensures itself { ReadsItself }
+    ensures ended { PointersEndWithTheirObject }
+{}
+
+/// Acts of pointers, and of allocations.
+#[tactic(auto, unfolding(crate::specs::Mean::enter_to))]
+pub fn pointers_meet_acts()
+    ensures access { MeetsAccess }
+    ensures row { MeetsRow }
+    ensures relation { MeetsRelation }
+    ensures compare { MeetsCompare }
+    ensures free { MeetsFree }
+    ensures count { MeetsCount }
+{}
