@@ -36,19 +36,19 @@ mark_freed p s = with_mark s freed
 abbrev pub release : Value → Progress → Outcome
 release p s = with_result (pointers.release s.store p) s (λ store s. done (mark_freed p (with_store s store)))
 
+-- Through a pointer: a leaf is read, or a member is reached.
+abbrev pub load_at : Value → Progress → Outcome
+load_at at s = with_result (pointers.load s.store at) s (λ v s. Went v s)
+
+abbrev pub member_at : Value → (leaf : ℕ) → Progress → Outcome
+member_at at leaf s = with_result (pointers.member s.store at leaf) s (λ v s. Went v s)
+
+-- A member of a struct that is no place: a struct again is its place, all else is read.
+abbrev pub member_value : Option Ty → (at : Value) → Progress → Outcome
+member_value (Some (Struct members)) at s = Went at s
+member_value shape at s = load_at at s
+
 module _ (types : List Ty) where
-  -- Through a pointer: a leaf is read, or a member is reached.
-  abbrev pub load_at : Value → Progress → Outcome
-  load_at at s = with_result (pointers.load s.store at) s (λ v s. Went v s)
-
-  abbrev pub member_at : Value → (leaf : ℕ) → Progress → Outcome
-  member_at at leaf s = with_result (pointers.member s.store at leaf) s (λ v s. Went v s)
-
-  -- A member of a struct that is no place: a struct again is its place, all else is read.
-  abbrev pub member_value : Option Ty → (at : Value) → Progress → Outcome
-  member_value (Some (Struct members)) at s = Went at s
-  member_value shape at s = load_at at s
-
   -- A value is stored, and is what the assignment gives. A struct is copied as it is, also what has no value in it.
   abbrev pub store_value : Option Ty → (ty : ℕ) → (at : Value) → (v : Value) → Progress → Outcome
   store_value (Some (Struct members)) ty at v s =
@@ -83,18 +83,18 @@ module _ (p : Program) (under : Environment) (enter : Calls) (call : ℕ) where
   -- `++` and `--`: the new value in front of the operand, the old one behind it
   abbrev pub increment_at : (ty : ℕ) → (before : Bool) → Direction → (at : Value) → Progress → Outcome
   increment_at ty before way at s =
-      and_then (load_at p.types at s) (λ old s.
-      and_then (operate_in_place ty (increment_of p.types under.widths (slice_get p.types ty) ty way) at old (number (pos 1)) s) (λ new s.
+      and_then (load_at at s) (λ old s.
+      and_then (operate_in_place ty (increment_of (slice_get p.types ty) ty way) at old (number (pos 1)) s) (λ new s.
       either before (λ s. Went new s) (λ s. Went old s) s))
 
   abbrev mutual
     pub value : Expression → Progress → Outcome
     value (tree.constant kind z) s = Went (number z) s
     value (tree.null_pointer ty) s = Went null s
-    value (tree.read ty place) s = and_then (place_of place s) (λ at s. load_at p.types at s)
-    value (tree.whole ty place) s = and_then (place_of place s) (λ at s. member_at p.types at 0 s)
+    value (tree.read ty place) s = and_then (place_of place s) (λ at s. load_at at s)
+    value (tree.whole ty place) s = and_then (place_of place s) (λ at s. member_at at 0 s)
     value (tree.address ty place) s = place_of place s
-    value (tree.first ty place) s = and_then (place_of place s) (λ at s. member_at p.types at 0 s)
+    value (tree.first ty place) s = and_then (place_of place s) (λ at s. member_at at 0 s)
     value (tree.row e steps) s = and_then (value e s) (λ a s. value_behind steps a s)
     value (tree.all_of e es) s =
         and_then (value e s) (λ v s. use_truth v s (λ holds s. either holds (λ s. all_hold es s) (λ s. Went (truth_value false) s) s))
@@ -110,7 +110,7 @@ module _ (p : Program) (under : Environment) (enter : Calls) (call : ℕ) where
     value (tree.assign ty place e) s =
         and_then (place_of place s) (λ at s. and_then (value e s) (λ v s. assign_at p.types ty at v s))
     value (tree.assign_by ty op place e) s =
-        and_then (place_of place s) (λ at s. and_then (load_at p.types at s) (λ left s.
+        and_then (place_of place s) (λ at s. and_then (load_at at s) (λ left s.
         and_then (value e s) (λ right s. operate_in_place ty op at left right s)))
     value (tree.increment ty before way place) s = and_then (place_of place s) (λ at s. increment_at ty before way at s)
     value (tree.conversion kind e) s =
@@ -118,14 +118,14 @@ module _ (p : Program) (under : Environment) (enter : Calls) (call : ℕ) where
         with_result (as_value (converted kind under.widths z)) s (λ v s. Went v s)))
     value (tree.discard e) s = and_then (value e s) (λ _ s. done s)
     value (tree.member_of ty leaf e) s =
-        and_then (value e s) (λ at s. and_then (member_at p.types at leaf s) (λ at s. member_value p.types (slice_get p.types ty) at s))
+        and_then (value e s) (λ at s. and_then (member_at at leaf s) (λ at s. member_value (slice_get p.types ty) at s))
     value (tree.call function es) s = arguments es [] s (λ vs s. enter function vs s)
     value (tree.put_character e) s = and_then (value e s) (λ v s. use_number v s (λ z s. show_character z s))
     value (tree.put_text e) s = and_then (value e s) (λ v s. with_text p.types v s (λ bytes s. show_line bytes s))
     value (tree.put_literal bs) s = show_line (up_to_zero bs) s
     value (tree.print xs) s = printed_values xs [] s (λ vs s. use_all vs s (λ vs s. show_pieces p.types xs vs 0 s))
     value (tree.allocate ty zeroed e) s =
-        and_then (value e s) (λ v s. allocate p.types (target_of p.types under.widths ty) zeroed v s)
+        and_then (value e s) (λ v s. allocate p.types (target_of p.types ty) zeroed v s)
     value (tree.release e) s = and_then (value e s) (λ v s. release v s)
     value tree.checkpoint s = done (reach_checkpoint s)
 
@@ -134,7 +134,7 @@ module _ (p : Program) (under : Environment) (enter : Calls) (call : ℕ) where
     place_of (tree.variable v) s = Went (pointer (of_call call v) 0) s
     place_of (tree.global g) s = Went (pointer (of_global g) 0) s
     place_of (tree.pointee e) s = and_then (value e s) (λ v s. use_value v s (λ v s. Went v s))
-    place_of (tree.member leaf place) s = and_then (place_of place s) (λ at s. member_at p.types at leaf s)
+    place_of (tree.member leaf place) s = and_then (place_of place s) (λ at s. member_at at leaf s)
 
     -- operators of one level, from left to right
     pub value_behind : Steps → Value → Progress → Outcome

@@ -61,11 +61,18 @@ both_numbers s a b go = used s a (λ a. used s b (λ b. if_number a (λ x. if_nu
 abbrev pub pointer_and_number : Store → Value → Value → (Value → ℤ → Result Value Act) → Result Value Act
 pointer_and_number s p z go = used s p (λ p. used s z (λ z. if_number z (λ z. go p z)))
 
-module _ (types : List Ty) (widths : Widths) where
-  -- the type that a pointer type points to
-  abbrev pub target_of : ℕ → ℕ
-  target_of ty = pointee_of (slice_get types ty)
+-- the type that a pointer type points to
+abbrev pub target_of : List Ty → ℕ → ℕ
+target_of types ty = pointee_of (slice_get types ty)
 
+-- The operator of `++` and `--`, whose right operand is 1: on char and short they go through int.
+abbrev pub increment_of : Option Ty → (ty : ℕ) → Direction → Operator
+increment_of (Some (Whole kind)) ty Forward = operator.Arithmetic Add (promoted kind)
+increment_of (Some (Whole kind)) ty Back = operator.Arithmetic Sub (promoted kind)
+increment_of _ ty Forward = operator.Forward ty
+increment_of _ ty Back = operator.Back ty
+
+module _ (types : List Ty) (widths : Widths) where
   -- both numbers converted to a kind
   abbrev pub both_converted : Kind → ℤ → ℤ → (ℤ → ℤ → Result Value Act) → Result Value Act
   both_converted kind x y go = if_ok (converted kind widths x) (λ x. if_ok (converted kind widths y) (λ y. go x y))
@@ -85,11 +92,11 @@ module _ (types : List Ty) (widths : Widths) where
   operate (operator.Compare c kind) s a b =
       both_numbers s a b (λ x y. both_converted kind x y (λ x y. Ok (truth_value (compares c x y))))
   operate (operator.ComparePointers c ty) s a b =
-      if_ok (pointers_compare c (target_of ty) s a b) (λ holds. Ok (truth_value holds))
-  operate (operator.Forward ty) s a b = pointer_and_number s a b (λ p z. step types (target_of ty) s p z)
-  operate (operator.Back ty) s a b = pointer_and_number s a b (λ p z. step types (target_of ty) s p (pos 0 -ℤ z))
-  operate (operator.ForwardOf ty) s a b = pointer_and_number s b a (λ p z. step types (target_of ty) s p z)
-  operate (operator.Difference ty) s a b = as_value (difference types (target_of ty) s a b)
+      if_ok (pointers_compare c (target_of types ty) s a b) (λ holds. Ok (truth_value holds))
+  operate (operator.Forward ty) s a b = pointer_and_number s a b (λ p z. step types (target_of types ty) s p z)
+  operate (operator.Back ty) s a b = pointer_and_number s a b (λ p z. step types (target_of types ty) s p (pos 0 -ℤ z))
+  operate (operator.ForwardOf ty) s a b = pointer_and_number s b a (λ p z. step types (target_of types ty) s p z)
+  operate (operator.Difference ty) s a b = as_value (difference types (target_of types ty) s a b)
 
   -- what `+`, `-` and `~` make of a number, which is promoted first
   abbrev pub operate_unary : Unary → Kind → ℤ → Result Value Act
@@ -101,10 +108,3 @@ module _ (types : List Ty) (widths : Widths) where
   abbrev pub fitted : Option Ty → Value → Result Value Act
   fitted (Some (Whole kind)) (number z) = as_value (converted kind widths z)
   fitted ty v = Ok v
-
-  -- The operator of `++` and `--`, whose right operand is 1: on char and short they go through int.
-  abbrev pub increment_of : Option Ty → (ty : ℕ) → Direction → Operator
-  increment_of (Some (Whole kind)) ty Forward = operator.Arithmetic Add (promoted kind)
-  increment_of (Some (Whole kind)) ty Back = operator.Arithmetic Sub (promoted kind)
-  increment_of _ ty Forward = operator.Forward ty
-  increment_of _ ty Back = operator.Back ty

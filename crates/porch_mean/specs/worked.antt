@@ -4,3 +4,15 @@ pub mod Write
 pub mod Order
 -- each undefined act
 pub mod Acts
+-- one past a row, over checkpoint()
+pub mod Ends
+-- structs
+pub mod Structs
+-- calls
+pub mod Calls
+-- loops and switches
+pub mod Statements
+-- what is shown
+pub mod Shown
+-- where runs stop, and marks
+pub mod Turns

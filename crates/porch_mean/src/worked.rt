@@ -1,4 +1,10 @@
 //! Programs that are worked out, by subject. The functions are laws, and have nothing to run.
 
 pub mod acts;
+pub mod calls;
+pub mod ends;
 pub mod order;
+pub mod shown;
+pub mod statements;
+pub mod structs;
+pub mod turns;

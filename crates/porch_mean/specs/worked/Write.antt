@@ -1,6 +1,6 @@
 -- The words that the worked programs are written in: a list of types that all of them have, small functions that build
 -- typed trees, and what is said of a program.
-use Rattle.std.specs.Prelude.{ℕ, ℤ, pos, ◌≡◌, List, [], ◌∷◌, ◌++◌, codes, Some, true, false, refl}
+use Rattle.std.specs.Prelude.{ℕ, ℤ, pos, ◌≡◌, List, [], ◌∷◌, ◌++◌, codes, Option, Some, true, false, refl}
 use Rattle.porch_types.specs.declared.shapes.Kind.TheVariants.{Int, Long}
 use Rattle.porch_types.specs.declared.shapes.Ty.{Ty}
 use Rattle.porch_types.specs.declared.shapes.Ty.TheVariants.{Pointer, Array, Struct}
@@ -10,6 +10,8 @@ use Rattle.porch_values.specs.declared.acts.Op.{Op}
 use Rattle.porch_values.specs.declared.widths.Widths.{Widths}
 use Rattle.porch_objects.specs.Meaning.{without_input, Mark, Ending, Ended, Met}
 use Rattle.porch_typed.specs.declared.typed.Comparison.{Comparison}
+use Rattle.porch_typed.specs.declared.typed.Comparison.TheVariants.{Less, Equal}
+use Rattle.porch_typed.specs.declared.typed.Direction.TheVariants.{Forward}
 use Rattle.porch_typed.specs.declared.typed.Fill.{Fill}
 use Rattle.porch_typed.specs.declared.typed.GlobalVariable.{GlobalVariable}
 use Rattle.porch_typed.specs.declared.typed.Operator.{Operator}
@@ -111,6 +113,18 @@ call function es = tree.call function (expressions es)
 abbrev pub comma : Expression → Expression → Expression
 comma a b = tree.sequence a (tree.with_expression b tree.no_expressions)
 
+-- `a < b`
+abbrev pub less : Expression → Expression → Expression
+less a b = join a (operator.Compare Less Int) b
+
+-- `a == b`
+abbrev pub same : Expression → Expression → Expression
+same a b = join a (operator.Compare Equal Int) b
+
+-- `v++` of variable v, an int
+abbrev pub step : ℕ → Expression
+step v = tree.increment INT false Forward (tree.variable v)
+
 -- pointers to int, and arrays
 
 abbrev pub pointer_in : Place → Expression
@@ -171,6 +185,11 @@ function params variables body =
 
 abbrev pub global : ℕ → List (ℕ × Fill) → GlobalVariable
 global ty fills = record { ty = ty; fills = fills }
+
+-- one with another result, or none
+abbrev pub function_of : Option ℕ → (params : ℕ) → List ℕ → List Statement → Function
+function_of result params variables body =
+    record { name = codes "f"; result = result; params = params; variables = variables; body = statements body; tokens = 1000 }
 
 -- A program: its globals, the variables and the body of main, which is function 0, and the other functions. The meaning
 -- asks neither for names and numbers of tokens nor for the pointer types of the types.

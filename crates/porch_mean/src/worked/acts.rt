@@ -3,7 +3,7 @@
 ghost use Rattle.porch_mean.specs.worked.Acts.{MeetsOverflow, LeastHasNoRemainder, MeetsDivide, MeetsShift, ShiftsByWidth, MeetsNarrow, ConvertsFirst, ReadsNoValue, ReadsItself, MeetsAccess, MeetsRow, MeetsRelation, MeetsCompare, MeetsFree, MeetsCount, PointersEndWithTheirObject};
 
 /// Acts of integers, among them those that depend on the width of long.
-#[tactic(auto, unfolding(crate::specs::Mean::enter_to))]
+#[tactic(auto, unfolding(crate::proofs::Runs::runs_compute))]
 pub fn integers_meet_acts()
     ensures overflow { MeetsOverflow }
     ensures remainder { LeastHasNoRemainder }
@@ -15,7 +15,7 @@ pub fn integers_meet_acts()
 {}
 
 /// A value that isn't there is read.
-#[tactic(auto, unfolding(crate::specs::Mean::enter_to))]
+#[tactic(auto, unfolding(crate::proofs::Runs::runs_compute))]
 pub fn values_are_missing()
     ensures never_given { ReadsNoValue }
     ensures itself { ReadsItself }
@@ -23,7 +23,7 @@ pub fn values_are_missing()
 {}
 
 /// Acts of pointers, and of allocations.
-#[tactic(auto, unfolding(crate::specs::Mean::enter_to))]
+#[tactic(auto, unfolding(crate::proofs::Runs::runs_compute))]
 pub fn pointers_meet_acts()
     ensures access { MeetsAccess }
     ensures row { MeetsRow }
