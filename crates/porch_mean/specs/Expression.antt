@@ -65,8 +65,7 @@ module _ (types : List Ty) where
       with_result (pointers.allocate types pointee zeroed z s.store) s (λ (made : Allocation) s.
       Went made.address (with_mark (with_store s made.store) (allocated (unsigned_abs z) (leaves_of types pointee)))))
 
--- `call` is the number of the call whose variables these are, and `enter` makes the calls in it.
-module _ (p : Program) (under : Environment) (enter : Calls) (call : ℕ) where
+module _ (p : Program) (under : Environment) where
   -- what an operator makes of two values
   abbrev pub operated : Operator → Value → Value → Progress → Outcome
   operated op a b s = with_result (operate p.types under.widths op s.store a b) s (λ v s. Went v s)
@@ -87,90 +86,92 @@ module _ (p : Program) (under : Environment) (enter : Calls) (call : ℕ) where
       and_then (operate_in_place ty (increment_of (slice_get p.types ty) ty way) at old (number (pos 1)) s) (λ new s.
       either before (λ s. Went new s) (λ s. Went old s) s))
 
-  abbrev mutual
-    pub value : Expression → Progress → Outcome
-    value (tree.constant kind z) s = Went (number z) s
-    value (tree.null_pointer ty) s = Went null s
-    value (tree.read ty place) s = and_then (place_of place s) (λ at s. load_at at s)
-    value (tree.whole ty place) s = and_then (place_of place s) (λ at s. member_at at 0 s)
-    value (tree.address ty place) s = place_of place s
-    value (tree.first ty place) s = and_then (place_of place s) (λ at s. member_at at 0 s)
-    value (tree.row e steps) s = and_then (value e s) (λ a s. value_behind steps a s)
-    value (tree.all_of e es) s =
-        and_then (value e s) (λ v s. use_truth v s (λ holds s. either holds (λ s. all_hold es s) (λ s. Went (truth_value false) s) s))
-    value (tree.any_of e es) s =
-        and_then (value e s) (λ v s. use_truth v s (λ holds s. either holds (λ s. Went (truth_value true) s) (λ s. any_holds es s) s))
-    value (tree.unary op kind e) s =
-        and_then (value e s) (λ v s. use_number v s (λ z s.
-        with_result (operate_unary p.types under.widths op kind z) s (λ v s. Went v s)))
-    value (tree.isnt e) s = and_then (value e s) (λ v s. use_truth v s (λ holds s. Went (truth_value (not holds)) s))
-    value (tree.choice ty e a b) s =
-        and_then (value e s) (λ v s. use_truth v s (λ holds s. either holds (λ s. value a s) (λ s. value b s) s))
-    value (tree.sequence e es) s = and_then (value e s) (λ v s. last_value es v s)
-    value (tree.assign ty place e) s =
-        and_then (place_of place s) (λ at s. and_then (value e s) (λ v s. assign_at p.types ty at v s))
-    value (tree.assign_by ty op place e) s =
-        and_then (place_of place s) (λ at s. and_then (load_at at s) (λ left s.
-        and_then (value e s) (λ right s. operate_in_place ty op at left right s)))
-    value (tree.increment ty before way place) s = and_then (place_of place s) (λ at s. increment_at ty before way at s)
-    value (tree.conversion kind e) s =
-        and_then (value e s) (λ v s. use_number v s (λ z s.
-        with_result (as_value (converted kind under.widths z)) s (λ v s. Went v s)))
-    value (tree.discard e) s = and_then (value e s) (λ _ s. done s)
-    value (tree.member_of ty leaf e) s =
-        and_then (value e s) (λ at s. and_then (member_at at leaf s) (λ at s. member_value (slice_get p.types ty) at s))
-    value (tree.call function es) s = arguments es [] s (λ vs s. enter function vs s)
-    value (tree.put_character e) s = and_then (value e s) (λ v s. use_number v s (λ z s. show_character z s))
-    value (tree.put_text e) s = and_then (value e s) (λ v s. with_text p.types v s (λ bytes s. show_line bytes s))
-    value (tree.put_literal bs) s = show_line (up_to_zero bs) s
-    value (tree.print xs) s = printed_values xs [] s (λ vs s. use_all vs s (λ vs s. show_pieces p.types xs vs 0 s))
-    value (tree.allocate ty zeroed e) s =
-        and_then (value e s) (λ v s. allocate p.types (target_of p.types ty) zeroed v s)
-    value (tree.release e) s = and_then (value e s) (λ v s. release v s)
-    value tree.checkpoint s = done (reach_checkpoint s)
+  -- `call` is the number of the call whose variables these are, and `enter` makes the calls in it.
+  module _ (enter : Calls) (call : ℕ) where
+    abbrev mutual
+      pub value : Expression → Progress → Outcome
+      value (tree.constant kind z) s = Went (number z) s
+      value (tree.null_pointer ty) s = Went null s
+      value (tree.read ty place) s = and_then (place_of place s) (λ at s. load_at at s)
+      value (tree.whole ty place) s = and_then (place_of place s) (λ at s. member_at at 0 s)
+      value (tree.address ty place) s = place_of place s
+      value (tree.first ty place) s = and_then (place_of place s) (λ at s. member_at at 0 s)
+      value (tree.row e steps) s = and_then (value e s) (λ a s. value_behind steps a s)
+      value (tree.all_of e es) s =
+          and_then (value e s) (λ v s. use_truth v s (λ holds s. either holds (λ s. all_hold es s) (λ s. Went (truth_value false) s) s))
+      value (tree.any_of e es) s =
+          and_then (value e s) (λ v s. use_truth v s (λ holds s. either holds (λ s. Went (truth_value true) s) (λ s. any_holds es s) s))
+      value (tree.unary op kind e) s =
+          and_then (value e s) (λ v s. use_number v s (λ z s.
+          with_result (operate_unary p.types under.widths op kind z) s (λ v s. Went v s)))
+      value (tree.isnt e) s = and_then (value e s) (λ v s. use_truth v s (λ holds s. Went (truth_value (not holds)) s))
+      value (tree.choice ty e a b) s =
+          and_then (value e s) (λ v s. use_truth v s (λ holds s. either holds (λ s. value a s) (λ s. value b s) s))
+      value (tree.sequence e es) s = and_then (value e s) (λ v s. last_value es v s)
+      value (tree.assign ty place e) s =
+          and_then (place_of place s) (λ at s. and_then (value e s) (λ v s. assign_at p.types ty at v s))
+      value (tree.assign_by ty op place e) s =
+          and_then (place_of place s) (λ at s. and_then (load_at at s) (λ left s.
+          and_then (value e s) (λ right s. operate_in_place ty op at left right s)))
+      value (tree.increment ty before way place) s = and_then (place_of place s) (λ at s. increment_at ty before way at s)
+      value (tree.conversion kind e) s =
+          and_then (value e s) (λ v s. use_number v s (λ z s.
+          with_result (as_value (converted kind under.widths z)) s (λ v s. Went v s)))
+      value (tree.discard e) s = and_then (value e s) (λ _ s. done s)
+      value (tree.member_of ty leaf e) s =
+          and_then (value e s) (λ at s. and_then (member_at at leaf s) (λ at s. member_value (slice_get p.types ty) at s))
+      value (tree.call function es) s = arguments es [] s (λ vs s. enter function vs s)
+      value (tree.put_character e) s = and_then (value e s) (λ v s. use_number v s (λ z s. show_character z s))
+      value (tree.put_text e) s = and_then (value e s) (λ v s. with_text p.types v s (λ bytes s. show_line bytes s))
+      value (tree.put_literal bs) s = show_line (up_to_zero bs) s
+      value (tree.print xs) s = printed_values xs [] s (λ vs s. use_all vs s (λ vs s. show_pieces p.types xs vs 0 s))
+      value (tree.allocate ty zeroed e) s =
+          and_then (value e s) (λ v s. allocate p.types (target_of p.types ty) zeroed v s)
+      value (tree.release e) s = and_then (value e s) (λ v s. release v s)
+      value tree.checkpoint s = done (reach_checkpoint s)
 
-    -- A place is a pointer to it. `*` uses its operand; reaching a member uses the place of its struct.
-    pub place_of : Place → Progress → Outcome
-    place_of (tree.variable v) s = Went (pointer (of_call call v) 0) s
-    place_of (tree.global g) s = Went (pointer (of_global g) 0) s
-    place_of (tree.pointee e) s = and_then (value e s) (λ v s. use_value v s (λ v s. Went v s))
-    place_of (tree.member leaf place) s = and_then (place_of place s) (λ at s. member_at at leaf s)
+      -- A place is a pointer to it. `*` uses its operand; reaching a member uses the place of its struct.
+      pub place_of : Place → Progress → Outcome
+      place_of (tree.variable v) s = Went (pointer (of_call call v) 0) s
+      place_of (tree.global g) s = Went (pointer (of_global g) 0) s
+      place_of (tree.pointee e) s = and_then (value e s) (λ v s. use_value v s (λ v s. Went v s))
+      place_of (tree.member leaf place) s = and_then (place_of place s) (λ at s. member_at at leaf s)
 
-    -- operators of one level, from left to right
-    pub value_behind : Steps → Value → Progress → Outcome
-    value_behind tree.no_steps a s = Went a s
-    value_behind (tree.with_step op e steps) a s =
-        and_then (value e s) (λ b s. and_then (operated op a b s) (λ c s. value_behind steps c s))
+      -- operators of one level, from left to right
+      pub value_behind : Steps → Value → Progress → Outcome
+      value_behind tree.no_steps a s = Went a s
+      value_behind (tree.with_step op e steps) a s =
+          and_then (value e s) (λ b s. and_then (operated op a b s) (λ c s. value_behind steps c s))
 
-    -- `&&` and `||`: what comes next is evaluated only where it decides
-    pub all_hold : Expressions → Progress → Outcome
-    all_hold tree.no_expressions s = Went (truth_value true) s
-    all_hold (tree.with_expression e es) s =
-        and_then (value e s) (λ v s. use_truth v s (λ holds s. either holds (λ s. all_hold es s) (λ s. Went (truth_value false) s) s))
+      -- `&&` and `||`: what comes next is evaluated only where it decides
+      pub all_hold : Expressions → Progress → Outcome
+      all_hold tree.no_expressions s = Went (truth_value true) s
+      all_hold (tree.with_expression e es) s =
+          and_then (value e s) (λ v s. use_truth v s (λ holds s. either holds (λ s. all_hold es s) (λ s. Went (truth_value false) s) s))
 
-    pub any_holds : Expressions → Progress → Outcome
-    any_holds tree.no_expressions s = Went (truth_value false) s
-    any_holds (tree.with_expression e es) s =
-        and_then (value e s) (λ v s. use_truth v s (λ holds s. either holds (λ s. Went (truth_value true) s) (λ s. any_holds es s) s))
+      pub any_holds : Expressions → Progress → Outcome
+      any_holds tree.no_expressions s = Went (truth_value false) s
+      any_holds (tree.with_expression e es) s =
+          and_then (value e s) (λ v s. use_truth v s (λ holds s. either holds (λ s. Went (truth_value true) s) (λ s. any_holds es s) s))
 
-    -- of a comma expression the last value is handed on, and the others are dropped
-    pub last_value : Expressions → Value → Progress → Outcome
-    last_value tree.no_expressions v s = Went v s
-    last_value (tree.with_expression e es) v s = and_then (value e s) (λ v s. last_value es v s)
+      -- of a comma expression the last value is handed on, and the others are dropped
+      pub last_value : Expressions → Value → Progress → Outcome
+      last_value tree.no_expressions v s = Went v s
+      last_value (tree.with_expression e es) v s = and_then (value e s) (λ v s. last_value es v s)
 
-    -- arguments of a call; each is used when it is evaluated
-    pub arguments : Expressions → List Value → Progress → (List Value → Progress → Outcome) → Outcome
-    arguments tree.no_expressions vs s go = go vs s
-    arguments (tree.with_expression e es) vs s go =
-        and_then (value e s) (λ v s. use_value v s (λ v s. arguments es (vs ++ v ∷ []) s go))
+      -- arguments of a call; each is used when it is evaluated
+      pub arguments : Expressions → List Value → Progress → (List Value → Progress → Outcome) → Outcome
+      arguments tree.no_expressions vs s go = go vs s
+      arguments (tree.with_expression e es) vs s go =
+          and_then (value e s) (λ v s. use_value v s (λ v s. arguments es (vs ++ v ∷ []) s go))
 
-    -- arguments of printf, all before its output
-    pub printed_values : Prints → List Value → Progress → (List Value → Progress → Outcome) → Outcome
-    printed_values tree.no_prints vs s go = go vs s
-    printed_values (tree.with_print x xs) vs s go = printed_value x vs s (λ vs s. printed_values xs vs s go)
+      -- arguments of printf, all before its output
+      pub printed_values : Prints → List Value → Progress → (List Value → Progress → Outcome) → Outcome
+      printed_values tree.no_prints vs s go = go vs s
+      printed_values (tree.with_print x xs) vs s go = printed_value x vs s (λ vs s. printed_values xs vs s go)
 
-    pub printed_value : Print → List Value → Progress → (List Value → Progress → Outcome) → Outcome
-    printed_value (tree.bytes bs) vs s go = go vs s
-    printed_value (tree.number how e) vs s go = and_then (value e s) (λ v s. use_value v s (λ v s. go (vs ++ v ∷ []) s))
-    printed_value (tree.text e) vs s go = and_then (value e s) (λ v s. use_value v s (λ v s. go (vs ++ v ∷ []) s))
-    printed_value (tree.literal bs) vs s go = go vs s
+      pub printed_value : Print → List Value → Progress → (List Value → Progress → Outcome) → Outcome
+      printed_value (tree.bytes bs) vs s go = go vs s
+      printed_value (tree.number how e) vs s go = and_then (value e s) (λ v s. use_value v s (λ v s. go (vs ++ v ∷ []) s))
+      printed_value (tree.text e) vs s go = and_then (value e s) (λ v s. use_value v s (λ v s. go (vs ++ v ∷ []) s))
+      printed_value (tree.literal bs) vs s go = go vs s

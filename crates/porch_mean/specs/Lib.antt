@@ -12,5 +12,7 @@ pub mod Expression
 pub mod Statement
 -- calls, and what a program means
 pub mod Mean
+-- laws of every run
+pub mod Laws
 -- programs that are worked out
 pub mod worked

@@ -6,4 +6,5 @@
 //! and the check computes it.
 #![tactic(auto)]
 
+pub mod laws;
 pub mod worked;

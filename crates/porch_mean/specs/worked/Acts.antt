@@ -1,15 +1,17 @@
 -- Each undefined act, and what is none beside it.
-use Rattle.std.specs.Prelude.{pos, negsuc, false, [], ◌∷◌}
-use Rattle.porch_types.specs.declared.shapes.Kind.TheVariants.{Int, Long, ULong}
+use Rattle.std.specs.Prelude.{ℕ, pos, negsuc, false, [], ◌∷◌}
+use Rattle.porch_types.specs.declared.shapes.Kind.{Kind}
+use Rattle.porch_types.specs.declared.shapes.Kind.TheVariants.{Char, Int, Long, ULong}
 use Rattle.porch_values.specs.declared.acts.Act.TheVariants as act
 use Rattle.porch_values.specs.declared.acts.Op.TheVariants.{Add, Div, Rem, Shl}
 use Rattle.porch_objects.specs.Meaning.{allocated, freed, Ended, Met}
 use Rattle.porch_typed.specs.declared.typed.Comparison.TheVariants.{Less, NotEqual}
+use Rattle.porch_typed.specs.declared.typed.Direction.TheVariants.{Forward}
 use Rattle.porch_typed.specs.declared.typed.Operator.TheVariants as operator
 use Rattle.porch_typed.specs.declared.typed.Unary.TheVariants.{Complement}
 use Rattle.porch_typed.specs.Mirror.{Expression, Program}
 use Rattle.porch_typed.specs.Mirror as tree
-use Rattle.porch_mean.specs.worked.Write.{wide, narrow, both, INT, ULONG, INT_POINTER, PAIR, SQUARE, int, long, local, join, combine, pointer_in, at, behind, array, inner, compare, evaluate, declare, global, main_of, Means, Gives, Meets}
+use Rattle.porch_mean.specs.worked.Write.{program, give, wide, narrow, both, INT, LONG, ULONG, INT_POINTER, PAIR, SQUARE, int, long, local, join, combine, pointer_in, at, behind, array, inner, compare, evaluate, declare, global, main_of, Means, Gives, Meets}
 
 -- an expression statement in main, with an int variable that is z
 abbrev pub with_int : Expression → Expression → Program
@@ -42,6 +44,16 @@ MeetsOverflow =
 abbrev pub LeastHasNoRemainder : Type 0
 LeastHasNoRemainder =
     Meets (with_int (tree.constant Int (negsuc 2147483647)) (combine Rem (local 0) (tree.constant Int (negsuc 0)))) 9 [] 1 act.Overflow
+
+-- char c=127; c++; return c; and the same with a long
+abbrev pub incremented : ℕ → Kind → Program
+incremented ty kind =
+    program [] (ty ∷ [])
+    (tree.declare 0 (tree.value (tree.conversion kind (int 127))) ∷ evaluate (tree.increment ty false Forward (tree.variable 0))
+    ∷ give (tree.conversion Int (tree.read ty (tree.variable 0))) ∷ []) []
+
+abbrev pub CharsGoThroughInt : Type 0
+CharsGoThroughInt = Gives (incremented 0 Char) 9 [] 1 (negsuc 127) × Gives (incremented LONG Long) 9 [] 1 (pos 128)
 
 -- z=0; 1/z
 abbrev pub MeetsDivide : Type 0

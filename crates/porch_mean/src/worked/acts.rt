@@ -1,12 +1,13 @@
 //! Each undefined act, and what is none beside it.
 
-ghost use Rattle.porch_mean.specs.worked.Acts.{MeetsOverflow, LeastHasNoRemainder, MeetsDivide, MeetsShift, ShiftsByWidth, MeetsNarrow, ConvertsFirst, ReadsNoValue, ReadsItself, MeetsAccess, MeetsRow, MeetsRelation, MeetsCompare, MeetsFree, MeetsCount, PointersEndWithTheirObject};
+ghost use Rattle.porch_mean.specs.worked.Acts.{MeetsOverflow, LeastHasNoRemainder, CharsGoThroughInt, MeetsDivide, MeetsShift, ShiftsByWidth, MeetsNarrow, ConvertsFirst, ReadsNoValue, ReadsItself, MeetsAccess, MeetsRow, MeetsRelation, MeetsCompare, MeetsFree, MeetsCount, PointersEndWithTheirObject};
 
 /// Acts of integers, among them those that depend on the width of long.
 #[tactic(auto, unfolding(crate::proofs::Runs::runs_compute))]
 pub fn integers_meet_acts()
     ensures overflow { MeetsOverflow }
     ensures remainder { LeastHasNoRemainder }
+    ensures small_kinds { CharsGoThroughInt }
     ensures divide { MeetsDivide }
     ensures shift { MeetsShift }
     ensures shift_by_width { ShiftsByWidth }
