@@ -10,96 +10,182 @@ use Rattle.porch_typed.specs.Mirror.{Function, Program}
 use Rattle.porch_mean.specs.Outcome.{broke, went_round, gave, Outcome, Went, Left, Undefined, Stopped, Calls, use_all, unless_paused}
 use Rattle.porch_mean.specs.Initial.{variables_with}
 use Rattle.porch_mean.specs.Mean.{back, run_body, enter_to, begin, said, meaning_of}
-use Rattle.porch_mean.specs.Laws.{IsLater, progress_of, CallsOnlyAdd, DepthDoesNotMatter, GoesOn, MoreTurnsGoOn}
-use Rattle.porch_mean.proofs.Follows.{Follows, same, cut, now, later, stored, turned, from, second_is_later, through_all}
-use Rattle.porch_mean.proofs.Statements.{pauses_alike, acts_alike}
+use Rattle.porch_mean.specs.Laws.{IsLater, progress_of, CallsOnlyAdd, CountsUpTo, TurnsAreCounted, DepthDoesNotMatter, GoesOn, MoreTurnsGoOn}
+use Rattle.porch_mean.proofs.Follows.{Law, Fine, Follows, same, cut, now, later, stored, turned, from, second_is_later, second_is_fine, weaken, through_all}
+use Rattle.porch_mean.proofs.Statements.{Counts, pauses_alike, acts_alike}
 
-module _ (Cut : Type 0) where
-  backs : (of_main : Bool) (s : Progress) (o o' : Outcome) → Follows Cut s o o' → Follows Cut s (back of_main o) (back of_main o')
-  backs m s _ _ (same (Went v t) l) = same (back m (Went v t)) (later s t _ l (stored t (left t.store)))
-  backs m s _ _ (same (Left broke t) l) = same (back m (Left broke t)) (later s t _ l (stored t (left t.store)))
-  backs m s _ _ (same (Left went_round t) l) = same (back m (Left went_round t)) (later s t _ l (stored t (left t.store)))
-  backs m s _ _ (same (Left (gave v) t) l) = same (back m (Left (gave v) t)) (later s t _ l (stored t (left t.store)))
-  backs m s _ _ (same (Undefined a t) l) = same (Undefined a t) l
-  backs m s _ _ (same (Stopped t) l) = same (Stopped t) l
-  backs m s _ _ (cut t (Went v u) c l k) = cut t (back m (Went v u)) c l (later t u _ k (stored u (left u.store)))
-  backs m s _ _ (cut t (Left broke u) c l k) = cut t (back m (Left broke u)) c l (later t u _ k (stored u (left u.store)))
-  backs m s _ _ (cut t (Left went_round u) c l k) = cut t (back m (Left went_round u)) c l (later t u _ k (stored u (left u.store)))
-  backs m s _ _ (cut t (Left (gave v) u) c l k) = cut t (back m (Left (gave v) u)) c l (later t u _ k (stored u (left u.store)))
-  backs m s _ _ (cut t (Undefined a u) c l k) = cut t (Undefined a u) c l k
-  backs m s _ _ (cut t (Stopped u) c l k) = cut t (Stopped u) c l k
+module _ (law : Law) where
+  backs : (of_main : Bool) (s : Progress) (o o' : Outcome) → Follows law s o o' → Follows law s (back of_main o) (back of_main o')
+  backs m s _ _ (same (Went v t) l f) = same (back m (Went v t)) (later s t _ l (stored t (left t.store))) f
+  backs m s _ _ (same (Left broke t) l f) = same (back m (Left broke t)) (later s t _ l (stored t (left t.store))) f
+  backs m s _ _ (same (Left went_round t) l f) = same (back m (Left went_round t)) (later s t _ l (stored t (left t.store))) f
+  backs m s _ _ (same (Left (gave v) t) l f) = same (back m (Left (gave v) t)) (later s t _ l (stored t (left t.store))) f
+  backs m s _ _ (same (Undefined a t) l f) = same (Undefined a t) l f
+  backs m s _ _ (same (Stopped t) l f) = same (Stopped t) l f
+  backs m s _ _ (cut t (Went v u) c l e k f) = cut t (back m (Went v u)) c l e (later t u _ k (stored u (left u.store))) f
+  backs m s _ _ (cut t (Left broke u) c l e k f) = cut t (back m (Left broke u)) c l e (later t u _ k (stored u (left u.store))) f
+  backs m s _ _ (cut t (Left went_round u) c l e k f) = cut t (back m (Left went_round u)) c l e (later t u _ k (stored u (left u.store))) f
+  backs m s _ _ (cut t (Left (gave v) u) c l e k f) = cut t (back m (Left (gave v) u)) c l e (later t u _ k (stored u (left u.store))) f
+  backs m s _ _ (cut t (Undefined a u) c l e k f) = cut t (Undefined a u) c l e k f
+  backs m s _ _ (cut t (Stopped u) c l e k f) = cut t (Stopped u) c l e k f
 
-  module _ (p : Program) (under : Environment) (n n' : ℕ) (few : n ≤ n') (longer : n < n' → Cut) (least : ℕ) (enter enter' : Calls)
-      (calls : (function : ℕ) (vs : List Value) (s : Progress) → least ≤ s.turns → Follows Cut s (enter function vs s) (enter' function vs s)) where
-    bodies : (f : Option Function) (function : ℕ) (vs : List Value) (s : Progress) → least ≤ s.turns
-        → Follows Cut s (run_body p under n enter f function vs s) (run_body p under n' enter' f function vs s)
-    bodies None function vs s h = same (Undefined Indeterminate s) (now s)
+  module _ (p : Program) (under : Environment) (n n' : ℕ) (count : Counts law n n') (enter enter' : Calls)
+      (calls : (function : ℕ) (vs : List Value) (s : Progress) → law.good s.turns → Follows law s (enter function vs s) (enter' function vs s)) where
+    pub bodies : (f : Option Function) (function : ℕ) (vs : List Value) (s : Progress) → law.good s.turns
+        → Follows law s (run_body p under n enter f function vs s) (run_body p under n' enter' f function vs s)
+    bodies None function vs s h = same (Undefined Indeterminate s) (now s) h
     bodies (Some f) function vs s h =
         let t : Progress = with_store s (entered s.store (variables_with p.types f.variables vs)) in
-        from Cut s t _ _ (stored s (entered s.store (variables_with p.types f.variables vs)))
+        from law s t _ _ (stored s (entered s.store (variables_with p.types f.variables vs)))
         (backs (nat_eq function p.main) t _ _
-        (acts_alike Cut p under n n' few longer least enter enter' s.store.called f.variables calls f.body t h))
+        (acts_alike law p under n n' count enter enter' s.store.called f.variables calls f.body t h))
 
-    -- a call, where those in it run alike
-    pub enters : (function : ℕ) (vs : List Value) (s : Progress) → least ≤ s.turns + 1
-        → Follows Cut s
-        (unless_paused n s (λ s. use_all vs s (λ vs s. run_body p under n enter (slice_get p.functions function) function vs (with_turn s))))
-        (unless_paused n' s (λ s. use_all vs s (λ vs s. run_body p under n' enter' (slice_get p.functions function) function vs (with_turn s))))
-    enters function vs s h =
-        pauses_alike Cut n n' few longer s _ _ (through_all Cut vs s _ _ (λ xs.
-        from Cut s (with_turn s) _ _ (turned s) (bodies (slice_get p.functions function) function xs (with_turn s) h)))
+-- A call, where those in it run alike by another law, from which this one follows.
+module _ (law inner : Law) (p : Program) (under : Environment) (n n' : ℕ) (count : Counts law n n') (inside : Counts inner n n')
+    (into : (t : ℕ) → law.good t → t < n' → inner.good (t + 1)) (good : (t : ℕ) → inner.good t → law.good t)
+    (over : (t : ℕ) → inner.over t → law.over t) (may : inner.may_stop → law.may_stop) (enter enter' : Calls)
+    (calls : (function : ℕ) (vs : List Value) (s : Progress) → inner.good s.turns → Follows inner s (enter function vs s) (enter' function vs s)) where
+  enters : (function : ℕ) (vs : List Value) (s : Progress) → law.good s.turns
+      → Follows law s
+      (unless_paused n s (λ s. use_all vs s (λ vs s. run_body p under n enter (slice_get p.functions function) function vs (with_turn s))))
+      (unless_paused n' s (λ s. use_all vs s (λ vs s. run_body p under n' enter' (slice_get p.functions function) function vs (with_turn s))))
+  enters function vs s h =
+      pauses_alike law n n' count s _ _ h (λ l. through_all law vs s _ _ h (λ xs.
+      from law s (with_turn s) _ _ (turned s)
+      (weaken inner law good over may (with_turn s) _ _
+      (bodies inner p under n n' inside enter enter' calls (slice_get p.functions function) function xs (with_turn s) (into s.turns h l)))))
 
--- a call beside itself: it only adds
+-- the same law inside
+module _ (law : Law) (p : Program) (under : Environment) (n n' : ℕ) (count : Counts law n n') where
+  further : (depth depth' : ℕ)
+      → ((function : ℕ) (vs : List Value) (s : Progress) → law.good s.turns
+      → Follows law s (enter_to depth p under n function vs s) (enter_to depth' p under n' function vs s))
+      → (function : ℕ) (vs : List Value) (s : Progress) → law.good s.turns
+      → Follows law s (enter_to (suc depth) p under n function vs s) (enter_to (suc depth') p under n' function vs s)
+  unfolding enter_to
+  further depth depth' calls function vs s h =
+      enters law law p under n n' count count count.turn (λ t g. g) (λ t g. g) (λ c. c) (enter_to depth p under n) (enter_to depth' p under n')
+      calls function vs s h
+
+-- a run beside itself, of which nothing else is said
+abbrev free : Law
+free = record { good = λ _. ⊤; over = λ _. ⊤; may_stop = ⊥ }
+
+free_counts : (n : ℕ) → Counts free n n
+free_counts n = record { few = le_refl n; longer = λ l. absurd (omega (arith, l)); ends = λ t g l. tt; turn = λ t g l. tt }
+
 call_with_itself : (p : Program) (under : Environment) (n depth function : ℕ) (vs : List Value) (s : Progress)
-    → Follows ⊥ s (enter_to depth p under n function vs s) (enter_to depth p under n function vs s)
+    → Follows free s (enter_to depth p under n function vs s) (enter_to depth p under n function vs s)
 unfolding enter_to
-call_with_itself p under n zero function vs s = same (Stopped s) (now s)
+call_with_itself p under n zero function vs s = same (Stopped s) (now s) tt
 call_with_itself p under n (suc depth) function vs s =
-    enters ⊥ p under n n (le_refl n) (λ l. absurd (omega (arith, l))) 0 (enter_to depth p under n) (enter_to depth p under n)
-    (λ f xs u h. call_with_itself p under n depth f xs u) function vs s (omega arith)
+    further free p under n n (free_counts n) depth depth (λ f xs u h. call_with_itself p under n depth f xs u) function vs s tt
 
 pub calls_add : CallsOnlyAdd
 calls_add p under n depth function vs s =
-    second_is_later ⊥ s (enter_to depth p under n function vs s) (enter_to depth p under n function vs s)
+    second_is_later free s (enter_to depth p under n function vs s) (enter_to depth p under n function vs s)
     (call_with_itself p under n depth function vs s)
 
--- where all turns were counted, a call stops
-stopped_there : (n : ℕ) (s : Progress) (go : Progress → Outcome) → n ≤ s.turns → unless_paused n s go ≡ Stopped s
-stopped_there n s go h = rw (le-leb n s.turns h) refl
+-- a run beside itself: turns are counted up to n, and calls may be nested deeper than there are turns left
+abbrev counted : (n depth : ℕ) → Law
+counted n depth = record { good = λ t. (t ≤ n) × (n + 1 ≤ depth + t); over = λ t. t ≡ n; may_stop = ⊥ }
 
-module _ (p : Program) (under : Environment) where
-  -- two depths, each more than the turns that are left
-  deep : (n depth other least function : ℕ) (vs : List Value) (s : Progress) → n + 1 ≤ depth + least → n + 1 ≤ other + least → least ≤ s.turns
-      → Follows ⊥ s (enter_to depth p under n function vs s) (enter_to other p under n function vs s)
-  unfolding enter_to
-  deep n zero zero least function vs s a b h = same (Stopped s) (now s)
-  deep n zero (suc other) least function vs s a b h =
-      rw (le-leb n s.turns (omega (arith, a, h))) (same (Stopped s) (now s))
-  deep n (suc depth) zero least function vs s a b h =
-      rw (le-leb n s.turns (omega (arith, b, h))) (same (Stopped s) (now s))
-  deep n (suc depth) (suc other) least function vs s a b h =
-      enters ⊥ p under n n (le_refl n) (λ l. absurd (omega (arith, l))) (least + 1) (enter_to depth p under n) (enter_to other p under n)
-      (λ f xs u q. deep n depth other (least + 1) f xs u (omega (arith, a)) (omega (arith, b)) q) function vs s (omega (arith, h))
+counted_counts : (n depth : ℕ) → Counts (counted n depth) n n
+counted_counts n depth =
+    record {
+      few = le_refl n;
+      longer = λ l. absurd (omega (arith, l));
+      ends = λ t g l. omega (arith, g.0, l);
+      turn = λ t g l. (omega (arith, l), omega (arith, g.1));
+    }
 
-  -- more turns, and calls nested as deep or deeper
-  goes_further : (n n' : ℕ) → n ≤ n' → (depth other function : ℕ) (vs : List Value) (s : Progress) → depth ≤ other
-      → Follows ⊤ s (enter_to depth p under n function vs s) (enter_to other p under n' function vs s)
-  unfolding enter_to
-  goes_further n n' few zero zero function vs s h = same (Stopped s) (now s)
-  goes_further n n' few zero (suc other) function vs s h =
-      cut s (enter_to (suc other) p under n' function vs s) tt (now s) (calls_add p under n' (suc other) function vs s)
-  goes_further n n' few (suc depth) zero function vs s h = absurd (omega (arith, h))
-  goes_further n n' few (suc depth) (suc other) function vs s h =
-      enters ⊤ p under n n' few (λ l. tt) 0 (enter_to depth p under n) (enter_to other p under n')
-      (λ f xs u q. goes_further n n' few depth other f xs u (omega (arith, h))) function vs s (omega arith)
+call_is_counted : (p : Program) (under : Environment) (n depth function : ℕ) (vs : List Value) (s : Progress)
+    → (s.turns ≤ n) × (n + 1 ≤ depth + s.turns)
+    → Follows (counted n depth) s (enter_to depth p under n function vs s) (enter_to depth p under n function vs s)
+unfolding enter_to
+call_is_counted p under n zero function vs s h = same (Stopped s) (now s) (omega (arith, h.0, h.1))
+call_is_counted p under n (suc depth) function vs s h =
+    enters (counted n (suc depth)) (counted n depth) p under n n (counted_counts n (suc depth)) (counted_counts n depth)
+    (λ t g l. (omega (arith, l), omega (arith, g.1))) (λ t g. (g.0, omega (arith, g.1))) (λ t e. e) (λ c. c) (enter_to depth p under n)
+    (enter_to depth p under n) (λ f xs u g. call_is_counted p under n depth f xs u g) function vs s h
 
-is_same : (s : Progress) (o o' : Outcome) → Follows ⊥ s o o' → o ≡ o'
-is_same s _ _ (same o l) = refl
-is_same s _ _ (cut t o c l m) = absurd c
+counted_so : (n : ℕ) (t : Progress) (e : Ending) → t.turns ≤ n → (e ≡ Paused → t.turns ≡ n) → CountsUpTo n (said t e)
+counted_so n t e h k = record { most = h; paused = k }
+
+up_to : (n depth : ℕ) (o : Outcome) → Fine (counted n depth) o → CountsUpTo n (meaning_of o)
+up_to n depth (Went (number z) t) f = counted_so n t (Ended z) f.0 (λ e. cc)
+up_to n depth (Went null t) f = counted_so n t (Met Indeterminate) f.0 (λ e. cc)
+up_to n depth (Went (pointer home leaf) t) f = counted_so n t (Met Indeterminate) f.0 (λ e. cc)
+up_to n depth (Went (past home leaf until) t) f = counted_so n t (Met Indeterminate) f.0 (λ e. cc)
+up_to n depth (Went indeterminate t) f = counted_so n t (Met Indeterminate) f.0 (λ e. cc)
+up_to n depth (Left how t) f = counted_so n t (Met Indeterminate) f.0 (λ e. cc)
+up_to n depth (Undefined a t) f = counted_so n t (Met a) f.0 (λ e. cc)
+up_to n depth (Stopped t) f = counted_so n t Paused (omega (arith, f)) (λ e. f)
+
+pub turns_are_counted : TurnsAreCounted
+turns_are_counted p under n =
+    up_to n (suc n) (enter_to (suc n) p under n p.main [] (begin p))
+    (second_is_fine (counted n (suc n)) (begin p) (enter_to (suc n) p under n p.main [] (begin p)) _
+    (call_is_counted p under n (suc n) p.main [] (begin p) (omega arith, omega arith)))
+
+-- two depths, each more than the turns that are left
+abbrev deep : (n depth other : ℕ) → Law
+deep n depth other = record { good = λ t. (n + 1 ≤ depth + t) × (n + 1 ≤ other + t); over = λ _. ⊤; may_stop = ⊥ }
+
+deep_counts : (n depth other : ℕ) → Counts (deep n depth other) n n
+deep_counts n depth other =
+    record {
+      few = le_refl n;
+      longer = λ l. absurd (omega (arith, l));
+      ends = λ t g l. tt;
+      turn = λ t g l. (omega (arith, g.0), omega (arith, g.1));
+    }
+
+two_depths : (p : Program) (under : Environment) (n depth other function : ℕ) (vs : List Value) (s : Progress)
+    → (n + 1 ≤ depth + s.turns) × (n + 1 ≤ other + s.turns)
+    → Follows (deep n depth other) s (enter_to depth p under n function vs s) (enter_to other p under n function vs s)
+unfolding enter_to
+two_depths p under n zero zero function vs s h = same (Stopped s) (now s) tt
+two_depths p under n zero (suc other) function vs s h = rw (le-leb n s.turns (omega (arith, h.0))) (same (Stopped s) (now s) tt)
+two_depths p under n (suc depth) zero function vs s h = rw (le-leb n s.turns (omega (arith, h.1))) (same (Stopped s) (now s) tt)
+two_depths p under n (suc depth) (suc other) function vs s h =
+    enters (deep n (suc depth) (suc other)) (deep n depth other) p under n n (deep_counts n (suc depth) (suc other)) (deep_counts n depth other)
+    (λ t g l. (omega (arith, g.0), omega (arith, g.1))) (λ t g. (omega (arith, g.0), omega (arith, g.1))) (λ t e. e) (λ c. c)
+    (enter_to depth p under n) (enter_to other p under n) (λ f xs u g. two_depths p under n depth other f xs u g) function vs s h
+
+is_same : (law : Law) (s : Progress) (o o' : Outcome) → (law.may_stop → ⊥) → Follows law s o o' → o ≡ o'
+is_same law s _ _ never (same o l f) = refl
+is_same law s _ _ never (cut t o c l e m f) = absurd (never c)
 
 pub depths_agree : DepthDoesNotMatter
 depths_agree p under n depth other function vs s a b =
-    is_same s _ _ (deep p under n depth other s.turns function vs s a b (le_refl s.turns))
+    is_same (deep n depth other) s _ _ (λ c. c) (two_depths p under n depth other function vs s (a, b))
+
+-- more turns, and calls nested as deep or deeper
+abbrev more_turns : Law
+more_turns = record { good = λ _. ⊤; over = λ _. ⊤; may_stop = ⊤ }
+
+more_counts : (n n' : ℕ) → n ≤ n' → Counts more_turns n n'
+more_counts n n' few = record { few = few; longer = λ l. tt; ends = λ t g l. tt; turn = λ t g l. tt }
+
+all_fine : (o : Outcome) → Fine more_turns o
+all_fine (Went v s) = tt
+all_fine (Left how s) = tt
+all_fine (Undefined a s) = tt
+all_fine (Stopped s) = tt
+
+module _ (p : Program) (under : Environment) (n n' : ℕ) (few : n ≤ n') where
+  goes_further : (depth other function : ℕ) (vs : List Value) (s : Progress) → depth ≤ other
+      → Follows more_turns s (enter_to depth p under n function vs s) (enter_to other p under n' function vs s)
+  unfolding enter_to
+  goes_further zero zero function vs s h = same (Stopped s) (now s) tt
+  goes_further zero (suc other) function vs s h =
+      cut s (enter_to (suc other) p under n' function vs s) tt (now s) tt (calls_add p under n' (suc other) function vs s)
+      (all_fine (enter_to (suc other) p under n' function vs s))
+  goes_further (suc depth) zero function vs s h = absurd (omega (arith, h))
+  goes_further (suc depth) (suc other) function vs s h =
+      further more_turns p under n n' (more_counts n n' few) depth other (λ f xs u g. goes_further depth other f xs u (omega (arith, h)))
+      function vs s tt
 
 goes_on_itself : (m : Meaning) → GoesOn m m
 goes_on_itself m =
@@ -118,9 +204,9 @@ paused_first t (Left how u) l = paused_before t u (Met Indeterminate) l
 paused_first t (Undefined a u) l = paused_before t u (Met a) l
 paused_first t (Stopped u) l = paused_before t u Paused l
 
-goes_on : (s : Progress) (o o' : Outcome) → Follows ⊤ s o o' → GoesOn (meaning_of o) (meaning_of o')
-goes_on s _ _ (same o l) = goes_on_itself (meaning_of o)
-goes_on s _ _ (cut t o c l m) = paused_first t o m
+goes_on : (s : Progress) (o o' : Outcome) → Follows more_turns s o o' → GoesOn (meaning_of o) (meaning_of o')
+goes_on s _ _ (same o l f) = goes_on_itself (meaning_of o)
+goes_on s _ _ (cut t o c l e m f) = paused_first t o m
 
 pub more_turns_go_on : MoreTurnsGoOn
 more_turns_go_on p under n more =

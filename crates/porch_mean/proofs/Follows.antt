@@ -34,81 +34,113 @@ marked s mark = record { output = ([], sym (append-nil s.output)); marks = (mark
 pub turned : (s : Progress) → IsLater s (with_turn s)
 turned s = record { output = ([], sym (append-nil s.output)); marks = ([], sym (append-nil s.marks)); turns = omega arith }
 
--- `Cut` says whether the first may be stopped before the second.
-pub data Follows (Cut : Type 0) (s : Progress) : Outcome → Outcome → Type 0 where
-  same : (o : Outcome) → IsLater s (progress_of o) → Follows Cut s o o
-  cut : (t : Progress) (o : Outcome) → Cut → IsLater s t → IsLater t (progress_of o) → Follows Cut s (Stopped t) o
+-- What two evaluations have in common: the numbers of turns from which they go on, those at which one may be stopped, and
+-- whether the first may be stopped before the second.
+pub record Law : Type 1 where
+  pub good : ℕ → Type 0
+  pub over : ℕ → Type 0
+  pub may_stop : Type 0
 
-module _ (Cut : Type 0) where
-  pub from : (s t : Progress) (o o' : Outcome) → IsLater s t → Follows Cut t o o' → Follows Cut s o o'
-  from s t _ _ l (same o m) = same o (later s t (progress_of o) l m)
-  from s t _ _ l (cut u o c m k) = cut u o c (later s t u l m) k
+abbrev pub Fine : Law → Outcome → Type 0
+Fine law (Went v s) = law.good s.turns
+Fine law (Left how s) = law.good s.turns
+Fine law (Undefined a s) = law.good s.turns
+Fine law (Stopped s) = law.over s.turns
 
-  pub second_is_later : (s : Progress) (o o' : Outcome) → Follows Cut s o o' → IsLater s (progress_of o')
-  second_is_later s _ _ (same o l) = l
-  second_is_later s _ _ (cut t o c l m) = later s t (progress_of o) l m
+pub data Follows (law : Law) (s : Progress) : Outcome → Outcome → Type 0 where
+  same : (o : Outcome) → IsLater s (progress_of o) → Fine law o → Follows law s o o
+  cut : (t : Progress) (o : Outcome) → law.may_stop → IsLater s t → law.over t.turns → IsLater t (progress_of o) → Fine law o
+      → Follows law s (Stopped t) o
 
-  pub bind : (go go' : Value → Progress → Outcome) (s : Progress) (o o' : Outcome) → Follows Cut s o o'
-      → ((v : Value) (u : Progress) → IsLater s u → Follows Cut u (go v u) (go' v u)) → Follows Cut s (and_then o go) (and_then o' go')
-  bind go go' s _ _ (same (Went v t) l) k = from s t (go v t) (go' v t) l (k v t l)
-  bind go go' s _ _ (same (Left how t) l) k = same (Left how t) l
-  bind go go' s _ _ (same (Undefined a t) l) k = same (Undefined a t) l
-  bind go go' s _ _ (same (Stopped t) l) k = same (Stopped t) l
-  bind go go' s _ _ (cut t (Went v u) c l m) k =
-      cut t (go' v u) c l (later t u (progress_of (go' v u)) m (second_is_later u (go v u) (go' v u) (k v u (later s t u l m))))
-  bind go go' s _ _ (cut t (Left how u) c l m) k = cut t (Left how u) c l m
-  bind go go' s _ _ (cut t (Undefined a u) c l m) k = cut t (Undefined a u) c l m
-  bind go go' s _ _ (cut t (Stopped u) c l m) k = cut t (Stopped u) c l m
+module _ (law : Law) where
+  pub from : (s t : Progress) (o o' : Outcome) → IsLater s t → Follows law t o o' → Follows law s o o'
+  from s t _ _ l (same o m f) = same o (later s t (progress_of o) l m) f
+  from s t _ _ l (cut u o c m e k f) = cut u o c (later s t u l m) e k f
+
+  pub second_is_later : (s : Progress) (o o' : Outcome) → Follows law s o o' → IsLater s (progress_of o')
+  second_is_later s _ _ (same o l f) = l
+  second_is_later s _ _ (cut t o c l e m f) = later s t (progress_of o) l m
+
+  pub second_is_fine : (s : Progress) (o o' : Outcome) → Follows law s o o' → Fine law o'
+  second_is_fine s _ _ (same o l f) = f
+  second_is_fine s _ _ (cut t o c l e m f) = f
+
+  pub bind : (go go' : Value → Progress → Outcome) (s : Progress) (o o' : Outcome) → Follows law s o o'
+      → ((v : Value) (u : Progress) → IsLater s u → law.good u.turns → Follows law u (go v u) (go' v u))
+      → Follows law s (and_then o go) (and_then o' go')
+  bind go go' s _ _ (same (Went v t) l f) k = from s t (go v t) (go' v t) l (k v t l f)
+  bind go go' s _ _ (same (Left how t) l f) k = same (Left how t) l f
+  bind go go' s _ _ (same (Undefined a t) l f) k = same (Undefined a t) l f
+  bind go go' s _ _ (same (Stopped t) l f) k = same (Stopped t) l f
+  bind go go' s _ _ (cut t (Went v u) c l e m f) k =
+      let next : Follows law u (go v u) (go' v u) = k v u (later s t u l m) f in
+      cut t (go' v u) c l e (later t u (progress_of (go' v u)) m (second_is_later u (go v u) (go' v u) next))
+      (second_is_fine u (go v u) (go' v u) next)
+  bind go go' s _ _ (cut t (Left how u) c l e m f) k = cut t (Left how u) c l e m f
+  bind go go' s _ _ (cut t (Undefined a u) c l e m f) k = cut t (Undefined a u) c l e m f
+  bind go go' s _ _ (cut t (Stopped u) c l e m f) k = cut t (Stopped u) c l e m f
 
   -- each way to go on
 
-  pub through_result : {A : Type 0} (r : Result A Act) (s : Progress) (go go' : A → Progress → Outcome)
-      → ((x : A) → Follows Cut s (go x s) (go' x s)) → Follows Cut s (with_result r s go) (with_result r s go')
-  through_result (Ok x) s go go' k = k x
-  through_result (Err a) s go go' k = same (Undefined a s) (now s)
+  pub through_result : {A : Type 0} (r : Result A Act) (s : Progress) (go go' : A → Progress → Outcome) → law.good s.turns
+      → ((x : A) → Follows law s (go x s) (go' x s)) → Follows law s (with_result r s go) (with_result r s go')
+  through_result (Ok x) s go go' h k = k x
+  through_result (Err a) s go go' h k = same (Undefined a s) (now s) h
 
   pub through_either : (b : Bool) (s : Progress) (a a' c c' : Progress → Outcome)
-      → Follows Cut s (a s) (a' s) → Follows Cut s (c s) (c' s) → Follows Cut s (either b a c s) (either b a' c' s)
+      → Follows law s (a s) (a' s) → Follows law s (c s) (c' s) → Follows law s (either b a c s) (either b a' c' s)
   through_either true s a a' c c' f g = f
   through_either false s a a' c c' f g = g
 
-  determinate : (v : Value) (s : Progress) (go go' : Value → Progress → Outcome)
-      → ((x : Value) → Follows Cut s (go x s) (go' x s)) → Follows Cut s (with_determinate v s go) (with_determinate v s go')
-  determinate (number z) s go go' k = k (number z)
-  determinate null s go go' k = k null
-  determinate (pointer home leaf) s go go' k = k (pointer home leaf)
-  determinate (past home leaf until) s go go' k = k (past home leaf until)
-  determinate indeterminate s go go' k = same (Undefined Indeterminate s) (now s)
+  determinate : (v : Value) (s : Progress) (go go' : Value → Progress → Outcome) → law.good s.turns
+      → ((x : Value) → Follows law s (go x s) (go' x s)) → Follows law s (with_determinate v s go) (with_determinate v s go')
+  determinate (number z) s go go' h k = k (number z)
+  determinate null s go go' h k = k null
+  determinate (pointer home leaf) s go go' h k = k (pointer home leaf)
+  determinate (past home leaf until) s go go' h k = k (past home leaf until)
+  determinate indeterminate s go go' h k = same (Undefined Indeterminate s) (now s) h
 
-  pub through_value : (v : Value) (s : Progress) (go go' : Value → Progress → Outcome)
-      → ((x : Value) → Follows Cut s (go x s) (go' x s)) → Follows Cut s (use_value v s go) (use_value v s go')
-  through_value v s go go' k = determinate (seen s.store v) s go go' k
+  pub through_value : (v : Value) (s : Progress) (go go' : Value → Progress → Outcome) → law.good s.turns
+      → ((x : Value) → Follows law s (go x s) (go' x s)) → Follows law s (use_value v s go) (use_value v s go')
+  through_value v s go go' h k = determinate (seen s.store v) s go go' h k
 
-  numbered : (v : Value) (s : Progress) (go go' : ℤ → Progress → Outcome)
-      → ((z : ℤ) → Follows Cut s (go z s) (go' z s)) → Follows Cut s (with_number v s go) (with_number v s go')
-  numbered (number z) s go go' k = k z
-  numbered null s go go' k = same (Undefined Indeterminate s) (now s)
-  numbered (pointer home leaf) s go go' k = same (Undefined Indeterminate s) (now s)
-  numbered (past home leaf until) s go go' k = same (Undefined Indeterminate s) (now s)
-  numbered indeterminate s go go' k = same (Undefined Indeterminate s) (now s)
+  numbered : (v : Value) (s : Progress) (go go' : ℤ → Progress → Outcome) → law.good s.turns
+      → ((z : ℤ) → Follows law s (go z s) (go' z s)) → Follows law s (with_number v s go) (with_number v s go')
+  numbered (number z) s go go' h k = k z
+  numbered null s go go' h k = same (Undefined Indeterminate s) (now s) h
+  numbered (pointer home leaf) s go go' h k = same (Undefined Indeterminate s) (now s) h
+  numbered (past home leaf until) s go go' h k = same (Undefined Indeterminate s) (now s) h
+  numbered indeterminate s go go' h k = same (Undefined Indeterminate s) (now s) h
 
-  pub through_number : (v : Value) (s : Progress) (go go' : ℤ → Progress → Outcome)
-      → ((z : ℤ) → Follows Cut s (go z s) (go' z s)) → Follows Cut s (use_number v s go) (use_number v s go')
-  through_number v s go go' k = numbered (seen s.store v) s go go' k
+  pub through_number : (v : Value) (s : Progress) (go go' : ℤ → Progress → Outcome) → law.good s.turns
+      → ((z : ℤ) → Follows law s (go z s) (go' z s)) → Follows law s (use_number v s go) (use_number v s go')
+  through_number v s go go' h k = numbered (seen s.store v) s go go' h k
 
-  tested : (v : Value) (s : Progress) (go go' : Bool → Progress → Outcome)
-      → ((b : Bool) → Follows Cut s (go b s) (go' b s)) → Follows Cut s (with_truth v s go) (with_truth v s go')
-  tested (number z) s go go' k = k (not (int_eq z (pos 0)))
-  tested null s go go' k = k false
-  tested (pointer home leaf) s go go' k = k true
-  tested (past home leaf until) s go go' k = k true
-  tested indeterminate s go go' k = same (Undefined Indeterminate s) (now s)
+  tested : (v : Value) (s : Progress) (go go' : Bool → Progress → Outcome) → law.good s.turns
+      → ((b : Bool) → Follows law s (go b s) (go' b s)) → Follows law s (with_truth v s go) (with_truth v s go')
+  tested (number z) s go go' h k = k (not (int_eq z (pos 0)))
+  tested null s go go' h k = k false
+  tested (pointer home leaf) s go go' h k = k true
+  tested (past home leaf until) s go go' h k = k true
+  tested indeterminate s go go' h k = same (Undefined Indeterminate s) (now s) h
 
-  pub through_truth : (v : Value) (s : Progress) (go go' : Bool → Progress → Outcome)
-      → ((b : Bool) → Follows Cut s (go b s) (go' b s)) → Follows Cut s (use_truth v s go) (use_truth v s go')
-  through_truth v s go go' k = tested (seen s.store v) s go go' k
+  pub through_truth : (v : Value) (s : Progress) (go go' : Bool → Progress → Outcome) → law.good s.turns
+      → ((b : Bool) → Follows law s (go b s) (go' b s)) → Follows law s (use_truth v s go) (use_truth v s go')
+  through_truth v s go go' h k = tested (seen s.store v) s go go' h k
 
-  pub through_all : (vs : List Value) (s : Progress) (go go' : List Value → Progress → Outcome)
-      → ((xs : List Value) → Follows Cut s (go xs s) (go' xs s)) → Follows Cut s (use_all vs s go) (use_all vs s go')
-  through_all [] s go go' k = k []
-  through_all (v ∷ vs) s go go' k = through_value v s _ _ (λ x. through_all vs s _ _ (λ xs. k (x ∷ xs)))
+  pub through_all : (vs : List Value) (s : Progress) (go go' : List Value → Progress → Outcome) → law.good s.turns
+      → ((xs : List Value) → Follows law s (go xs s) (go' xs s)) → Follows law s (use_all vs s go) (use_all vs s go')
+  through_all [] s go go' h k = k []
+  through_all (v ∷ vs) s go go' h k = through_value v s _ _ h (λ x. through_all vs s _ _ h (λ xs. k (x ∷ xs)))
+
+-- the same by a law that asks less
+pub weaken : (strong law : Law) → ((t : ℕ) → strong.good t → law.good t) → ((t : ℕ) → strong.over t → law.over t)
+    → (strong.may_stop → law.may_stop) → (s : Progress) (o o' : Outcome) → Follows strong s o o' → Follows law s o o'
+weaken strong law good over may s _ _ (same (Went v t) l f) = same (Went v t) l (good t.turns f)
+weaken strong law good over may s _ _ (same (Left how t) l f) = same (Left how t) l (good t.turns f)
+weaken strong law good over may s _ _ (same (Undefined a t) l f) = same (Undefined a t) l (good t.turns f)
+weaken strong law good over may s _ _ (same (Stopped t) l f) = same (Stopped t) l (over t.turns f)
+weaken strong law good over may s _ _ (cut u (Went v t) c l e m f) = cut u (Went v t) (may c) l (over u.turns e) m (good t.turns f)
+weaken strong law good over may s _ _ (cut u (Left how t) c l e m f) = cut u (Left how t) (may c) l (over u.turns e) m (good t.turns f)
+weaken strong law good over may s _ _ (cut u (Undefined a t) c l e m f) = cut u (Undefined a t) (may c) l (over u.turns e) m (good t.turns f)
+weaken strong law good over may s _ _ (cut u (Stopped t) c l e m f) = cut u (Stopped t) (may c) l (over u.turns e) m (over t.turns f)

@@ -17,7 +17,7 @@ use Rattle.porch_mean.specs.Outcome.{Outcome, Went, Undefined, done, with_result
 use Rattle.porch_mean.specs.Printing.{give_count, show_line, show_character, with_text, with_piece, show_pieces}
 use Rattle.porch_mean.specs.Expression.{with_mark, reach_checkpoint, mark_freed, release, load_at, member_at, member_value, store_value, assign_at, allocate}
 use Rattle.porch_mean.specs.Laws.{IsLater}
-use Rattle.porch_mean.proofs.Follows.{Follows, same, now, later, stored, shown, marked, from, through_result, through_number}
+use Rattle.porch_mean.proofs.Follows.{Law, Follows, same, now, later, stored, shown, marked, from, through_result, through_number}
 
 mark_freed_later : (v : Value) (s : Progress) → IsLater s (mark_freed v s)
 mark_freed_later (number z) s = marked s freed
@@ -31,81 +31,92 @@ checkpoint_later s =
     let m : Progress = with_mark s (reached s.turns (length s.output)) in
     later s m (with_store m (reached_one s.store)) (marked s (reached s.turns (length s.output))) (stored m (reached_one s.store))
 
-module _ (Cut : Type 0) where
+module _ (law : Law) where
+  mark_freed_good : (v : Value) (s : Progress) → law.good s.turns → law.good (mark_freed v s).turns
+  mark_freed_good (number z) s h = h
+  mark_freed_good null s h = h
+  mark_freed_good (pointer home leaf) s h = h
+  mark_freed_good (past home leaf until) s h = h
+  mark_freed_good indeterminate s h = h
+
   -- a result is the value
-  pub gives : (r : Result Value Act) (s : Progress)
-      → Follows Cut s (with_result r s (λ v s. Went v s)) (with_result r s (λ v s. Went v s))
-  gives r s = through_result Cut r s _ _ (λ v. same (Went v s) (now s))
+  pub gives : (r : Result Value Act) (s : Progress) → law.good s.turns
+      → Follows law s (with_result r s (λ v s. Went v s)) (with_result r s (λ v s. Went v s))
+  gives r s h = through_result law r s _ _ h (λ v. same (Went v s) (now s) h)
 
-  pub loads : (at : Value) (s : Progress) → Follows Cut s (load_at at s) (load_at at s)
-  loads at s = gives (pointers.load s.store at) s
+  pub loads : (at : Value) (s : Progress) → law.good s.turns → Follows law s (load_at at s) (load_at at s)
+  loads at s h = gives (pointers.load s.store at) s h
 
-  pub members : (at : Value) (leaf : ℕ) (s : Progress) → Follows Cut s (member_at at leaf s) (member_at at leaf s)
-  members at leaf s = gives (pointers.member s.store at leaf) s
+  pub members : (at : Value) (leaf : ℕ) (s : Progress) → law.good s.turns → Follows law s (member_at at leaf s) (member_at at leaf s)
+  members at leaf s h = gives (pointers.member s.store at leaf) s h
 
-  pub member_values : (shape : Option Ty) (at : Value) (s : Progress) → Follows Cut s (member_value shape at s) (member_value shape at s)
-  member_values None at s = loads at s
-  member_values (Some (Whole kind)) at s = loads at s
-  member_values (Some (Pointer to)) at s = loads at s
-  member_values (Some (Array of count)) at s = loads at s
-  member_values (Some (Struct ms)) at s = same (Went at s) (now s)
+  pub member_values : (shape : Option Ty) (at : Value) (s : Progress) → law.good s.turns
+      → Follows law s (member_value shape at s) (member_value shape at s)
+  member_values None at s h = loads at s h
+  member_values (Some (Whole kind)) at s h = loads at s h
+  member_values (Some (Pointer to)) at s h = loads at s h
+  member_values (Some (Array of count)) at s h = loads at s h
+  member_values (Some (Struct ms)) at s h = same (Went at s) (now s) h
 
-  pub releases : (at : Value) (s : Progress) → Follows Cut s (release at s) (release at s)
-  releases at s =
-      through_result Cut (pointers.release s.store at) s _ _ (λ store.
+  pub releases : (at : Value) (s : Progress) → law.good s.turns → Follows law s (release at s) (release at s)
+  releases at s h =
+      through_result law (pointers.release s.store at) s _ _ h (λ store.
       same (done (mark_freed at (with_store s store)))
-      (later s (with_store s store) (mark_freed at (with_store s store)) (stored s store) (mark_freed_later at (with_store s store))))
+      (later s (with_store s store) (mark_freed at (with_store s store)) (stored s store) (mark_freed_later at (with_store s store)))
+      (mark_freed_good at (with_store s store) h))
 
   module _ (types : List Ty) where
-    stores : (at v : Value) (s : Progress) (r : Result Store Act)
-        → Follows Cut s (with_result r s (λ store s. Went v (with_store s store))) (with_result r s (λ store s. Went v (with_store s store)))
-    stores at v s r = through_result Cut r s _ _ (λ store. same (Went v (with_store s store)) (stored s store))
+    stores : (at v : Value) (s : Progress) (r : Result Store Act) → law.good s.turns
+        → Follows law s (with_result r s (λ store s. Went v (with_store s store))) (with_result r s (λ store s. Went v (with_store s store)))
+    stores at v s r h = through_result law r s _ _ h (λ store. same (Went v (with_store s store)) (stored s store) h)
 
-    store_values : (shape : Option Ty) (ty : ℕ) (at v : Value) (s : Progress)
-        → Follows Cut s (store_value types shape ty at v s) (store_value types shape ty at v s)
-    store_values None ty at v s = stores at v s (pointers.store s.store at v)
-    store_values (Some (Whole kind)) ty at v s = stores at v s (pointers.store s.store at v)
-    store_values (Some (Pointer to)) ty at v s = stores at v s (pointers.store s.store at v)
-    store_values (Some (Array of count)) ty at v s = stores at v s (pointers.store s.store at v)
-    store_values (Some (Struct ms)) ty at v s = stores at at s (pointers.copy (leaves_of types ty) s.store at v)
+    store_values : (shape : Option Ty) (ty : ℕ) (at v : Value) (s : Progress) → law.good s.turns
+        → Follows law s (store_value types shape ty at v s) (store_value types shape ty at v s)
+    store_values None ty at v s h = stores at v s (pointers.store s.store at v) h
+    store_values (Some (Whole kind)) ty at v s h = stores at v s (pointers.store s.store at v) h
+    store_values (Some (Pointer to)) ty at v s h = stores at v s (pointers.store s.store at v) h
+    store_values (Some (Array of count)) ty at v s h = stores at v s (pointers.store s.store at v) h
+    store_values (Some (Struct ms)) ty at v s h = stores at at s (pointers.copy (leaves_of types ty) s.store at v) h
 
-    pub assigns : (ty : ℕ) (at v : Value) (s : Progress) → Follows Cut s (assign_at types ty at v s) (assign_at types ty at v s)
-    assigns ty at v s = store_values (slice_get types ty) ty at v s
+    pub assigns : (ty : ℕ) (at v : Value) (s : Progress) → law.good s.turns
+        → Follows law s (assign_at types ty at v s) (assign_at types ty at v s)
+    assigns ty at v s h = store_values (slice_get types ty) ty at v s h
 
-    pub allocates : (pointee : ℕ) (zeroed : Bool) (count : Value) (s : Progress)
-        → Follows Cut s (allocate types pointee zeroed count s) (allocate types pointee zeroed count s)
-    allocates pointee zeroed count s =
-        through_number Cut count s _ _ (λ z. through_result Cut (pointers.allocate types pointee zeroed z s.store) s _ _ (λ made.
+    pub allocates : (pointee : ℕ) (zeroed : Bool) (count : Value) (s : Progress) → law.good s.turns
+        → Follows law s (allocate types pointee zeroed count s) (allocate types pointee zeroed count s)
+    allocates pointee zeroed count s h =
+        through_number law count s _ _ h (λ z. through_result law (pointers.allocate types pointee zeroed z s.store) s _ _ h (λ made.
         let t : Progress = with_store s made.store in
         let m : Mark = allocated (unsigned_abs z) (leaves_of types pointee) in
-        same (Went made.address (with_mark t m)) (later s t (with_mark t m) (stored s made.store) (marked t m))))
+        same (Went made.address (with_mark t m)) (later s t (with_mark t m) (stored s made.store) (marked t m)) h))
 
-    pub texts : (at : Value) (s : Progress) (go : List ℕ → Progress → Outcome)
-        → ((bytes : List ℕ) → Follows Cut s (go bytes s) (go bytes s)) → Follows Cut s (with_text types at s go) (with_text types at s go)
-    texts at s go k = through_result Cut (pointers.text types 0 s.store at) s _ _ k
+    pub texts : (at : Value) (s : Progress) (go : List ℕ → Progress → Outcome) → law.good s.turns
+        → ((bytes : List ℕ) → Follows law s (go bytes s) (go bytes s)) → Follows law s (with_text types at s go) (with_text types at s go)
+    texts at s go h k = through_result law (pointers.text types 0 s.store at) s _ _ h k
 
-    pieces : (x : Print) (vs : List Value) (s : Progress) (go : List ℕ → List Value → Progress → Outcome)
-        → ((bytes : List ℕ) (vs : List Value) → Follows Cut s (go bytes vs s) (go bytes vs s))
-        → Follows Cut s (with_piece types x vs s go) (with_piece types x vs s go)
-    pieces (tree.bytes bs) vs s go k = k bs vs
-    pieces (tree.literal bs) vs s go k = k _ vs
-    pieces (tree.number how e) [] s go k = same (Undefined Indeterminate s) (now s)
-    pieces (tree.number how e) (v ∷ vs) s go k = through_number Cut v s _ _ (λ z. k _ vs)
-    pieces (tree.text e) [] s go k = same (Undefined Indeterminate s) (now s)
-    pieces (tree.text e) (v ∷ vs) s go k = texts v s _ (λ bytes. k bytes vs)
+    pieces : (x : Print) (vs : List Value) (s : Progress) (go : List ℕ → List Value → Progress → Outcome) → law.good s.turns
+        → ((bytes : List ℕ) (vs : List Value) → Follows law s (go bytes vs s) (go bytes vs s))
+        → Follows law s (with_piece types x vs s go) (with_piece types x vs s go)
+    pieces (tree.bytes bs) vs s go h k = k bs vs
+    pieces (tree.literal bs) vs s go h k = k _ vs
+    pieces (tree.number how e) [] s go h k = same (Undefined Indeterminate s) (now s) h
+    pieces (tree.number how e) (v ∷ vs) s go h k = through_number law v s _ _ h (λ z. k _ vs)
+    pieces (tree.text e) [] s go h k = same (Undefined Indeterminate s) (now s) h
+    pieces (tree.text e) (v ∷ vs) s go h k = texts v s _ h (λ bytes. k bytes vs)
 
-    counts : (n : ℕ) (s : Progress) → Follows Cut s (give_count n s) (give_count n s)
-    counts n s = through_result Cut (as_int_of (pos n)) s _ _ (λ z. same (Went (number z) s) (now s))
+    counts : (n : ℕ) (s : Progress) → law.good s.turns → Follows law s (give_count n s) (give_count n s)
+    counts n s h = through_result law (as_int_of (pos n)) s _ _ h (λ z. same (Went (number z) s) (now s) h)
 
-    pub shows_pieces : (xs : Prints) (vs : List Value) (n : ℕ) (s : Progress)
-        → Follows Cut s (show_pieces types xs vs n s) (show_pieces types xs vs n s)
-    shows_pieces tree.no_prints vs n s = counts n s
-    shows_pieces (tree.with_print x xs) vs n s =
-        pieces x vs s _ (λ bytes vs.
-        from Cut s (with_shown s bytes) _ _ (shown s bytes) (shows_pieces xs vs (n + length bytes) (with_shown s bytes)))
+    pub shows_pieces : (xs : Prints) (vs : List Value) (n : ℕ) (s : Progress) → law.good s.turns
+        → Follows law s (show_pieces types xs vs n s) (show_pieces types xs vs n s)
+    shows_pieces tree.no_prints vs n s h = counts n s h
+    shows_pieces (tree.with_print x xs) vs n s h =
+        pieces x vs s _ h (λ bytes vs.
+        from law s (with_shown s bytes) _ _ (shown s bytes) (shows_pieces xs vs (n + length bytes) (with_shown s bytes) h))
 
-    pub shows_line : (bytes : List ℕ) (s : Progress) → Follows Cut s (show_line bytes s) (show_line bytes s)
-    shows_line bytes s = from Cut s (with_shown s (bytes ++ 10 ∷ [])) _ _ (shown s (bytes ++ 10 ∷ [])) (counts (length bytes + 1) (with_shown s (bytes ++ 10 ∷ [])))
+    pub shows_line : (bytes : List ℕ) (s : Progress) → law.good s.turns → Follows law s (show_line bytes s) (show_line bytes s)
+    shows_line bytes s h =
+        from law s (with_shown s (bytes ++ 10 ∷ [])) _ _ (shown s (bytes ++ 10 ∷ [])) (counts (length bytes + 1) (with_shown s (bytes ++ 10 ∷ [])) h)
 
-    pub shows_character : (z : ℤ) (s : Progress) → Follows Cut s (show_character z s) (show_character z s)
-    shows_character z s = same (show_character z s) (shown s (byte_of z ∷ []))
+    pub shows_character : (z : ℤ) (s : Progress) → law.good s.turns → Follows law s (show_character z s) (show_character z s)
+    shows_character z s h = same (show_character z s) (shown s (byte_of z ∷ [])) h

@@ -24,6 +24,14 @@ abbrev pub CallsOnlyAdd : Type 0
 CallsOnlyAdd = (p : Program) (under : Environment) (n depth function : ℕ) (vs : List Value) (s : Progress)
     → IsLater s (progress_of (enter_to depth p under n function vs s))
 
+-- A program counts n turns at most, and where it is paused exactly n.
+pub record CountsUpTo (n : ℕ) (m : Meaning) : Type 0 where
+  pub most : m.turns ≤ n
+  pub paused : m.ending ≡ Paused → m.turns ≡ n
+
+abbrev pub TurnsAreCounted : Type 0
+TurnsAreCounted = (p : Program) (under : Environment) (n : ℕ) → CountsUpTo n (mean p under n)
+
 -- How deep calls may be nested doesn't matter, where it is more than the turns that are left.
 abbrev pub DepthDoesNotMatter : Type 0
 DepthDoesNotMatter = (p : Program) (under : Environment) (n depth other function : ℕ) (vs : List Value) (s : Progress)

@@ -1,6 +1,6 @@
 //! What is proved of every run. The functions are laws, and have nothing to run.
 
-ghost use Rattle.porch_mean.specs.Laws.{CallsOnlyAdd, DepthDoesNotMatter, MoreTurnsGoOn};
+ghost use Rattle.porch_mean.specs.Laws.{CallsOnlyAdd, DepthDoesNotMatter, MoreTurnsGoOn, TurnsAreCounted};
 
 /// A call only adds to what was shown and marked, and to the turns, however it comes out.
 pub fn calls_only_add()
@@ -15,4 +15,9 @@ pub fn depth_does_not_matter()
 /// With more turns a program means the same, unless it is paused; then it goes on from there.
 pub fn more_turns_go_on()
     ensures { MoreTurnsGoOn }
+{}
+
+/// A program counts as many turns as it is allowed at most, and where it is paused exactly so many.
+pub fn turns_are_counted()
+    ensures { TurnsAreCounted }
 {}
