@@ -9,23 +9,23 @@ use Rattle.porch_objects.specs.Meaning.{Environment, Progress, Meaning, Ending, 
 use Rattle.porch_typed.specs.Mirror.{Function, Program}
 use Rattle.porch_mean.specs.Outcome.{broke, went_round, gave, Outcome, Went, Left, Undefined, Stopped, Calls, use_all, unless_paused}
 use Rattle.porch_mean.specs.Initial.{variables_with}
-use Rattle.porch_mean.specs.Mean.{back, run_body, enter_to, begin, said, meaning_of}
+use Rattle.porch_mean.specs.Mean.{behind_call, run_body, enter_to, begin, meaning_at, meaning_of}
 use Rattle.porch_mean.specs.Laws.{IsLater, progress_of, CallsOnlyAdd, CountsUpTo, TurnsAreCounted, DepthDoesNotMatter, GoesOn, MoreTurnsGoOn}
 use Rattle.porch_mean.proofs.Follows.{Law, Fine, Follows, same, cut, now, later, stored, turned, from, second_is_later, second_is_fine, weaken, through_all}
 use Rattle.porch_mean.proofs.Statements.{Counts, pauses_alike, acts_alike}
 
 module _ (law : Law) where
-  backs : (of_main : Bool) (s : Progress) (o o' : Outcome) → Follows law s o o' → Follows law s (back of_main o) (back of_main o')
-  backs m s _ _ (same (Went v t) l f) = same (back m (Went v t)) (later s t _ l (stored t (left t.store))) f
-  backs m s _ _ (same (Left broke t) l f) = same (back m (Left broke t)) (later s t _ l (stored t (left t.store))) f
-  backs m s _ _ (same (Left went_round t) l f) = same (back m (Left went_round t)) (later s t _ l (stored t (left t.store))) f
-  backs m s _ _ (same (Left (gave v) t) l f) = same (back m (Left (gave v) t)) (later s t _ l (stored t (left t.store))) f
+  backs : (of_main : Bool) (s : Progress) (o o' : Outcome) → Follows law s o o' → Follows law s (behind_call of_main o) (behind_call of_main o')
+  backs m s _ _ (same (Went v t) l f) = same (behind_call m (Went v t)) (later s t _ l (stored t (left t.store))) f
+  backs m s _ _ (same (Left broke t) l f) = same (behind_call m (Left broke t)) (later s t _ l (stored t (left t.store))) f
+  backs m s _ _ (same (Left went_round t) l f) = same (behind_call m (Left went_round t)) (later s t _ l (stored t (left t.store))) f
+  backs m s _ _ (same (Left (gave v) t) l f) = same (behind_call m (Left (gave v) t)) (later s t _ l (stored t (left t.store))) f
   backs m s _ _ (same (Undefined a t) l f) = same (Undefined a t) l f
   backs m s _ _ (same (Stopped t) l f) = same (Stopped t) l f
-  backs m s _ _ (cut t (Went v u) c l e k f) = cut t (back m (Went v u)) c l e (later t u _ k (stored u (left u.store))) f
-  backs m s _ _ (cut t (Left broke u) c l e k f) = cut t (back m (Left broke u)) c l e (later t u _ k (stored u (left u.store))) f
-  backs m s _ _ (cut t (Left went_round u) c l e k f) = cut t (back m (Left went_round u)) c l e (later t u _ k (stored u (left u.store))) f
-  backs m s _ _ (cut t (Left (gave v) u) c l e k f) = cut t (back m (Left (gave v) u)) c l e (later t u _ k (stored u (left u.store))) f
+  backs m s _ _ (cut t (Went v u) c l e k f) = cut t (behind_call m (Went v u)) c l e (later t u _ k (stored u (left u.store))) f
+  backs m s _ _ (cut t (Left broke u) c l e k f) = cut t (behind_call m (Left broke u)) c l e (later t u _ k (stored u (left u.store))) f
+  backs m s _ _ (cut t (Left went_round u) c l e k f) = cut t (behind_call m (Left went_round u)) c l e (later t u _ k (stored u (left u.store))) f
+  backs m s _ _ (cut t (Left (gave v) u) c l e k f) = cut t (behind_call m (Left (gave v) u)) c l e (later t u _ k (stored u (left u.store))) f
   backs m s _ _ (cut t (Undefined a u) c l e k f) = cut t (Undefined a u) c l e k f
   backs m s _ _ (cut t (Stopped u) c l e k f) = cut t (Stopped u) c l e k f
 
@@ -109,7 +109,7 @@ call_is_counted p under n (suc depth) function vs s h =
     (λ t g l. (omega (arith, l), omega (arith, g.1))) (λ t g. (g.0, omega (arith, g.1))) (λ t e. e) (λ c. c) (enter_to depth p under n)
     (enter_to depth p under n) (λ f xs u g. call_is_counted p under n depth f xs u g) function vs s h
 
-counted_so : (n : ℕ) (t : Progress) (e : Ending) → t.turns ≤ n → (e ≡ Paused → t.turns ≡ n) → CountsUpTo n (said t e)
+counted_so : (n : ℕ) (t : Progress) (e : Ending) → t.turns ≤ n → (e ≡ Paused → t.turns ≡ n) → CountsUpTo n (meaning_at t e)
 counted_so n t e h k = record { most = h; paused = k }
 
 up_to : (n depth : ℕ) (o : Outcome) → Fine (counted n depth) o → CountsUpTo n (meaning_of o)
@@ -191,10 +191,10 @@ goes_on_itself : (m : Meaning) → GoesOn m m
 goes_on_itself m =
     record { same = λ _. refl; output = ([], sym (append-nil m.output)); marks = ([], sym (append-nil m.marks)); turns = le_refl m.turns }
 
-paused_before : (t u : Progress) (e : Ending) → IsLater t u → GoesOn (said t Paused) (said u e)
+paused_before : (t u : Progress) (e : Ending) → IsLater t u → GoesOn (meaning_at t Paused) (meaning_at u e)
 paused_before t u e l = record { same = λ ne. absurd (ne refl); output = l.output; marks = l.marks; turns = l.turns }
 
-paused_first : (t : Progress) (o : Outcome) → IsLater t (progress_of o) → GoesOn (said t Paused) (meaning_of o)
+paused_first : (t : Progress) (o : Outcome) → IsLater t (progress_of o) → GoesOn (meaning_at t Paused) (meaning_of o)
 paused_first t (Went (number z) u) l = paused_before t u (Ended z) l
 paused_first t (Went null u) l = paused_before t u (Met Indeterminate) l
 paused_first t (Went (pointer home leaf) u) l = paused_before t u (Met Indeterminate) l

@@ -9,23 +9,23 @@ use Rattle.porch_typed.specs.declared.typed.Direction.{Direction}
 use Rattle.porch_typed.specs.Mirror.{Expression, Expressions, Steps, Place, Print, Prints, Program}
 use Rattle.porch_typed.specs.Mirror as tree
 use Rattle.porch_mean.specs.Outcome.{Outcome, Went, Calls, done}
-use Rattle.porch_mean.specs.Operators.{as_value, truth_value, operate, operate_unary, fitted, target_of, increment_of}
+use Rattle.porch_mean.specs.Operators.{as_value, truth_value, operate, operate_unary, fit_to, target_of, increment_of}
 use Rattle.porch_mean.specs.Printing.{up_to_zero}
-use Rattle.porch_mean.specs.Expression.{reach_checkpoint, operated, operate_in_place, increment_at, value, place_of, value_behind, all_hold, any_holds, last_value, arguments, printed_values, printed_value}
+use Rattle.porch_mean.specs.Expression.{reach_checkpoint, operate_on, operate_in_place, increment_at, value, place_of, value_behind, all_hold, any_holds, last_value, arguments, printed_values, printed_value}
 use Rattle.porch_mean.specs.Laws.{IsLater}
 use Rattle.porch_mean.proofs.Follows.{Law, Follows, same, now, later, bind, through_either, through_value, through_number, through_truth, through_all}
 use Rattle.porch_mean.proofs.Parts.{checkpoint_later, gives, loads, members, member_values, releases, assigns, allocates, texts, shows_pieces, shows_line, shows_character}
 
 module _ (law : Law) (p : Program) (under : Environment) where
   operates : (op : Operator) (a b : Value) (s : Progress) → law.good s.turns
-      → Follows law s (operated p under op a b s) (operated p under op a b s)
+      → Follows law s (operate_on p under op a b s) (operate_on p under op a b s)
   operates op a b s h = gives law (operate p.types under.widths op s.store a b) s h
 
   operates_in_place : (ty : ℕ) (op : Operator) (at a b : Value) (s : Progress) → law.good s.turns
       → Follows law s (operate_in_place p under ty op at a b s) (operate_in_place p under ty op at a b s)
   operates_in_place ty op at a b s h =
       bind law _ _ s _ _ (operates op a b s h) (λ v t l g.
-      bind law _ _ t _ _ (gives law (fitted p.types under.widths (slice_get p.types ty) v) t g) (λ v u m g. assigns law p.types ty at v u g))
+      bind law _ _ t _ _ (gives law (fit_to p.types under.widths (slice_get p.types ty) v) t g) (λ v u m g. assigns law p.types ty at v u g))
 
   increments : (ty : ℕ) (before : Bool) (way : Direction) (at : Value) (s : Progress) → law.good s.turns
       → Follows law s (increment_at p under ty before way at s) (increment_at p under ty before way at s)

@@ -17,7 +17,7 @@ use Rattle.porch_typed.specs.declared.typed.Direction.{Direction}
 use Rattle.porch_typed.specs.Mirror.{Expression, Expressions, Steps, Place, Print, Prints, Program}
 use Rattle.porch_typed.specs.Mirror as tree
 use Rattle.porch_mean.specs.Outcome.{Outcome, Went, Calls, done, and_then, with_result, either, use_value, use_number, use_truth, use_all}
-use Rattle.porch_mean.specs.Operators.{as_value, truth_value, target_of, operate, operate_unary, fitted, increment_of}
+use Rattle.porch_mean.specs.Operators.{as_value, truth_value, target_of, operate, operate_unary, fit_to, increment_of}
 use Rattle.porch_mean.specs.Printing.{up_to_zero, show_line, show_character, with_text, show_pieces}
 
 -- a mark more
@@ -67,17 +67,17 @@ module _ (types : List Ty) where
 
 module _ (p : Program) (under : Environment) where
   -- what an operator makes of two values
-  abbrev pub operated : Operator → Value → Value → Progress → Outcome
-  operated op a b s = with_result (operate p.types under.widths op s.store a b) s (λ v s. Went v s)
+  abbrev pub operate_on : Operator → Value → Value → Progress → Outcome
+  operate_on op a b s = with_result (operate p.types under.widths op s.store a b) s (λ v s. Went v s)
 
   -- The result of an operator, converted to the type of the place that it is stored in.
   abbrev pub fit_for : (ty : ℕ) → Value → Progress → Outcome
-  fit_for ty v s = with_result (fitted p.types under.widths (slice_get p.types ty) v) s (λ v s. Went v s)
+  fit_for ty v s = with_result (fit_to p.types under.widths (slice_get p.types ty) v) s (λ v s. Went v s)
 
   -- an operator's result is stored where its left operand was
   abbrev pub operate_in_place : (ty : ℕ) → Operator → (at left right : Value) → Progress → Outcome
   operate_in_place ty op at left right s =
-      and_then (operated op left right s) (λ v s. and_then (fit_for ty v s) (λ v s. assign_at p.types ty at v s))
+      and_then (operate_on op left right s) (λ v s. and_then (fit_for ty v s) (λ v s. assign_at p.types ty at v s))
 
   -- `++` and `--`: the new value in front of the operand, the old one behind it
   abbrev pub increment_at : (ty : ℕ) → (before : Bool) → Direction → (at : Value) → Progress → Outcome
@@ -141,7 +141,7 @@ module _ (p : Program) (under : Environment) where
       pub value_behind : Steps → Value → Progress → Outcome
       value_behind tree.no_steps a s = Went a s
       value_behind (tree.with_step op e steps) a s =
-          and_then (value e s) (λ b s. and_then (operated op a b s) (λ c s. value_behind steps c s))
+          and_then (value e s) (λ b s. and_then (operate_on op a b s) (λ c s. value_behind steps c s))
 
       -- `&&` and `||`: what comes next is evaluated only where it decides
       pub all_hold : Expressions → Progress → Outcome

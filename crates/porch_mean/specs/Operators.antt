@@ -43,15 +43,15 @@ compares Equal x y = int_eq x y
 compares NotEqual x y = not (int_eq x y)
 
 -- the kind that a value of a kind is promoted to
-abbrev pub promoted : Kind → Kind
-promoted Char = Int
-promoted UChar = Int
-promoted Short = Int
-promoted UShort = Int
-promoted Int = Int
-promoted UInt = UInt
-promoted Long = Long
-promoted ULong = ULong
+abbrev pub promoted_kind : Kind → Kind
+promoted_kind Char = Int
+promoted_kind UChar = Int
+promoted_kind Short = Int
+promoted_kind UShort = Int
+promoted_kind Int = Int
+promoted_kind UInt = UInt
+promoted_kind Long = Long
+promoted_kind ULong = ULong
 
 -- two operands are used, and are numbers
 abbrev pub both_numbers : Store → Value → Value → (ℤ → ℤ → Result Value Act) → Result Value Act
@@ -67,8 +67,8 @@ target_of types ty = pointee_of (slice_get types ty)
 
 -- The operator of `++` and `--`, whose right operand is 1: on char and short they go through int.
 abbrev pub increment_of : Option Ty → (ty : ℕ) → Direction → Operator
-increment_of (Some (Whole kind)) ty Forward = operator.Arithmetic Add (promoted kind)
-increment_of (Some (Whole kind)) ty Back = operator.Arithmetic Sub (promoted kind)
+increment_of (Some (Whole kind)) ty Forward = operator.Arithmetic Add (promoted_kind kind)
+increment_of (Some (Whole kind)) ty Back = operator.Arithmetic Sub (promoted_kind kind)
 increment_of _ ty Forward = operator.Forward ty
 increment_of _ ty Back = operator.Back ty
 
@@ -105,6 +105,6 @@ module _ (types : List Ty) (widths : Widths) where
   operate_unary Complement kind z = if_ok (converted kind widths z) (λ z. as_value (complemented kind widths z))
 
   -- a value as it is stored in an object of a type: an integer is converted to its kind
-  abbrev pub fitted : Option Ty → Value → Result Value Act
-  fitted (Some (Whole kind)) (number z) = as_value (converted kind widths z)
-  fitted ty v = Ok v
+  abbrev pub fit_to : Option Ty → Value → Result Value Act
+  fit_to (Some (Whole kind)) (number z) = as_value (converted kind widths z)
+  fit_to ty v = Ok v

@@ -1,11 +1,15 @@
 -- the words that programs are written in here
 pub mod Write
+-- each operator
+pub mod Operators
 -- order of evaluation
 pub mod Order
 -- each undefined act
 pub mod Acts
 -- one past a row, over checkpoint()
 pub mod Ends
+-- pointers, rows and lists
+pub mod Pointers
 -- structs
 pub mod Structs
 -- calls
@@ -16,3 +20,5 @@ pub mod Statements
 pub mod Shown
 -- where runs stop, and marks
 pub mod Turns
+-- a whole program
+pub mod Whole

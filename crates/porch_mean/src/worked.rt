@@ -3,7 +3,9 @@
 pub mod acts;
 pub mod calls;
 pub mod ends;
+pub mod operators;
 pub mod order;
+pub mod pointers;
 pub mod shown;
 pub mod statements;
 pub mod structs;

@@ -45,6 +45,8 @@ types =
     ∷ Pointer 8  -- 16: int **
     ∷ Struct (4 ∷ 8 ∷ [])  -- 17: struct {int x; int *p;}
     ∷ Pointer 17  -- 18: a pointer to it
+    ∷ Pointer 20  -- 19: a pointer to the next
+    ∷ Struct (4 ∷ 19 ∷ [])  -- 20: struct node {int v; struct node *next;}
     ∷ []
 
 abbrev pub INT : ℕ
