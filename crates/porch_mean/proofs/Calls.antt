@@ -11,65 +11,66 @@ use Rattle.porch_mean.specs.Outcome.{broke, went_round, gave, Outcome, Went, Lef
 use Rattle.porch_mean.specs.Initial.{variables_with}
 use Rattle.porch_mean.specs.Mean.{behind_call, run_body, enter_to, begin, meaning_at, meaning_of}
 use Rattle.porch_mean.specs.Laws.{IsLater, progress_of, CallsOnlyAdd, CountsUpTo, TurnsAreCounted, DepthDoesNotMatter, GoesOn, MoreTurnsGoOn}
-use Rattle.porch_mean.proofs.Follows.{Law, Fine, Follows, same, cut, now, later, stored, turned, from, second_is_later, second_is_fine, weaken, through_all}
+use Rattle.porch_mean.proofs.Follows.{Law, Fine, Follows, same, cut, met, now, later, stored, turned, from, second_is_later, second_is_fine, Onward, weaken, through_all}
+use Rattle.porch_mean.proofs.Expressions.{Agreement, itself}
 use Rattle.porch_mean.proofs.Statements.{Counts, pauses_alike, acts_alike}
 
 module _ (law : Law) where
-  backs : (of_main : Bool) (s : Progress) (o o' : Outcome) → Follows law s o o' → Follows law s (behind_call of_main o) (behind_call of_main o')
-  backs m s _ _ (same (Went v t) l f) = same (behind_call m (Went v t)) (later s t _ l (stored t (left t.store))) f
-  backs m s _ _ (same (Left broke t) l f) = same (behind_call m (Left broke t)) (later s t _ l (stored t (left t.store))) f
-  backs m s _ _ (same (Left went_round t) l f) = same (behind_call m (Left went_round t)) (later s t _ l (stored t (left t.store))) f
-  backs m s _ _ (same (Left (gave v) t) l f) = same (behind_call m (Left (gave v) t)) (later s t _ l (stored t (left t.store))) f
-  backs m s _ _ (same (Undefined a t) l f) = same (Undefined a t) l f
-  backs m s _ _ (same (Stopped t) l f) = same (Stopped t) l f
-  backs m s _ _ (cut t (Went v u) c l e k f) = cut t (behind_call m (Went v u)) c l e (later t u _ k (stored u (left u.store))) f
-  backs m s _ _ (cut t (Left broke u) c l e k f) = cut t (behind_call m (Left broke u)) c l e (later t u _ k (stored u (left u.store))) f
-  backs m s _ _ (cut t (Left went_round u) c l e k f) = cut t (behind_call m (Left went_round u)) c l e (later t u _ k (stored u (left u.store))) f
-  backs m s _ _ (cut t (Left (gave v) u) c l e k f) = cut t (behind_call m (Left (gave v) u)) c l e (later t u _ k (stored u (left u.store))) f
-  backs m s _ _ (cut t (Undefined a u) c l e k f) = cut t (Undefined a u) c l e k f
-  backs m s _ _ (cut t (Stopped u) c l e k f) = cut t (Stopped u) c l e k f
+  call_onward : (m : Bool) (t : Progress) (o : Outcome) → IsLater t (progress_of o) → Fine law o → Onward law t (behind_call m o)
+  call_onward m t (Went v u) l f = (later t u _ l (stored u (left u.store)), f)
+  call_onward m t (Left broke u) l f = (later t u _ l (stored u (left u.store)), f)
+  call_onward m t (Left went_round u) l f = (later t u _ l (stored u (left u.store)), f)
+  call_onward m t (Left (gave v) u) l f = (later t u _ l (stored u (left u.store)), f)
+  call_onward m t (Undefined a u) l f = (l, f)
+  call_onward m t (Stopped u) l f = (l, f)
 
-  module _ (p : Program) (under : Environment) (n n' : ℕ) (count : Counts law n n') (enter enter' : Calls)
+  calls_end : (m : Bool) (s : Progress) (o o' : Outcome) → Follows law s o o' → Follows law s (behind_call m o) (behind_call m o')
+  calls_end m s _ _ (same o l f) = let on : Onward law s (behind_call m o) = call_onward m s o l f in same (behind_call m o) on.0 on.1
+  calls_end m s _ _ (cut t o c l e k f) = let on : Onward law t (behind_call m o) = call_onward m t o k f in cut t (behind_call m o) c l e on.0 on.1
+  calls_end m s _ _ (met a t o c l e k f) =
+      let on : Onward law t (behind_call m o) = call_onward m t o k f in met a t (behind_call m o) c l e on.0 on.1
+
+  module _ (p : Program) (under under' : Environment) (agree : Agreement law p under under') (n n' : ℕ) (count : Counts law n n') (enter enter' : Calls)
       (calls : (function : ℕ) (vs : List Value) (s : Progress) → law.good s.turns → Follows law s (enter function vs s) (enter' function vs s)) where
     pub bodies : (f : Option Function) (function : ℕ) (vs : List Value) (s : Progress) → law.good s.turns
-        → Follows law s (run_body p under n enter f function vs s) (run_body p under n' enter' f function vs s)
+        → Follows law s (run_body p under n enter f function vs s) (run_body p under' n' enter' f function vs s)
     bodies None function vs s h = same (Undefined Indeterminate s) (now s) h
     bodies (Some f) function vs s h =
         let t : Progress = with_store s (entered s.store (variables_with p.types f.variables vs)) in
         from law s t _ _ (stored s (entered s.store (variables_with p.types f.variables vs)))
-        (backs (nat_eq function p.main) t _ _
-        (acts_alike law p under n n' count enter enter' s.store.called f.variables calls f.body t h))
+        (calls_end (nat_eq function p.main) t _ _
+        (acts_alike law p under under' agree n n' count enter enter' s.store.called f.variables calls f.body t h))
 
 -- A call, where those in it run alike by another law, from which this one follows.
-module _ (law inner : Law) (p : Program) (under : Environment) (n n' : ℕ) (count : Counts law n n') (inside : Counts inner n n')
+module _ (law inner : Law) (p : Program) (under under' : Environment) (agree : Agreement inner p under under') (n n' : ℕ) (count : Counts law n n') (inside : Counts inner n n')
     (into : (t : ℕ) → law.good t → t < n' → inner.good (t + 1)) (good : (t : ℕ) → inner.good t → law.good t)
-    (over : (t : ℕ) → inner.over t → law.over t) (may : inner.may_stop → law.may_stop) (enter enter' : Calls)
+    (over : (t : ℕ) → inner.over t → law.over t) (may : inner.may_stop → law.may_stop) (may_act : inner.may_act → law.may_act) (enter enter' : Calls)
     (calls : (function : ℕ) (vs : List Value) (s : Progress) → inner.good s.turns → Follows inner s (enter function vs s) (enter' function vs s)) where
   enters : (function : ℕ) (vs : List Value) (s : Progress) → law.good s.turns
       → Follows law s
       (unless_paused n s (λ s. use_all vs s (λ vs s. run_body p under n enter (slice_get p.functions function) function vs (with_turn s))))
-      (unless_paused n' s (λ s. use_all vs s (λ vs s. run_body p under n' enter' (slice_get p.functions function) function vs (with_turn s))))
+      (unless_paused n' s (λ s. use_all vs s (λ vs s. run_body p under' n' enter' (slice_get p.functions function) function vs (with_turn s))))
   enters function vs s h =
       pauses_alike law n n' count s _ _ h (λ l. through_all law vs s _ _ h (λ xs.
       from law s (with_turn s) _ _ (turned s)
-      (weaken inner law good over may (with_turn s) _ _
-      (bodies inner p under n n' inside enter enter' calls (slice_get p.functions function) function xs (with_turn s) (into s.turns h l)))))
+      (weaken inner law good over may may_act (with_turn s) _ _
+      (bodies inner p under under' agree n n' inside enter enter' calls (slice_get p.functions function) function xs (with_turn s) (into s.turns h l)))))
 
 -- the same law inside
-module _ (law : Law) (p : Program) (under : Environment) (n n' : ℕ) (count : Counts law n n') where
-  further : (depth depth' : ℕ)
+module _ (law : Law) (p : Program) (under under' : Environment) (agree : Agreement law p under under') (n n' : ℕ) (count : Counts law n n') where
+  pub further : (depth depth' : ℕ)
       → ((function : ℕ) (vs : List Value) (s : Progress) → law.good s.turns
-      → Follows law s (enter_to depth p under n function vs s) (enter_to depth' p under n' function vs s))
+      → Follows law s (enter_to depth p under n function vs s) (enter_to depth' p under' n' function vs s))
       → (function : ℕ) (vs : List Value) (s : Progress) → law.good s.turns
-      → Follows law s (enter_to (suc depth) p under n function vs s) (enter_to (suc depth') p under n' function vs s)
+      → Follows law s (enter_to (suc depth) p under n function vs s) (enter_to (suc depth') p under' n' function vs s)
   unfolding enter_to
   further depth depth' calls function vs s h =
-      enters law law p under n n' count count count.turn (λ t g. g) (λ t g. g) (λ c. c) (enter_to depth p under n) (enter_to depth' p under n')
+      enters law law p under under' agree n n' count count count.turn (λ t g. g) (λ t g. g) (λ c. c) (λ c. c) (enter_to depth p under n) (enter_to depth' p under' n')
       calls function vs s h
 
 -- a run beside itself, of which nothing else is said
 abbrev free : Law
-free = record { good = λ _. ⊤; over = λ _. ⊤; may_stop = ⊥ }
+free = record { good = λ _. ⊤; over = λ _. ⊤; may_stop = ⊥; may_act = ⊥ }
 
 free_counts : (n : ℕ) → Counts free n n
 free_counts n = record { few = le_refl n; longer = λ l. absurd (omega (arith, l)); ends = λ t g l. tt; turn = λ t g l. tt }
@@ -79,7 +80,7 @@ call_with_itself : (p : Program) (under : Environment) (n depth function : ℕ) 
 unfolding enter_to
 call_with_itself p under n zero function vs s = same (Stopped s) (now s) tt
 call_with_itself p under n (suc depth) function vs s =
-    further free p under n n (free_counts n) depth depth (λ f xs u h. call_with_itself p under n depth f xs u) function vs s tt
+    further free p under under (itself free p under) n n (free_counts n) depth depth (λ f xs u h. call_with_itself p under n depth f xs u) function vs s tt
 
 pub calls_add : CallsOnlyAdd
 calls_add p under n depth function vs s =
@@ -88,7 +89,7 @@ calls_add p under n depth function vs s =
 
 -- a run beside itself: turns are counted up to n, and calls may be nested deeper than there are turns left
 abbrev counted : (n depth : ℕ) → Law
-counted n depth = record { good = λ t. (t ≤ n) × (n + 1 ≤ depth + t); over = λ t. t ≡ n; may_stop = ⊥ }
+counted n depth = record { good = λ t. (t ≤ n) × (n + 1 ≤ depth + t); over = λ t. t ≡ n; may_stop = ⊥; may_act = ⊥ }
 
 counted_counts : (n depth : ℕ) → Counts (counted n depth) n n
 counted_counts n depth =
@@ -105,8 +106,8 @@ call_is_counted : (p : Program) (under : Environment) (n depth function : ℕ) (
 unfolding enter_to
 call_is_counted p under n zero function vs s h = same (Stopped s) (now s) (omega (arith, h.0, h.1))
 call_is_counted p under n (suc depth) function vs s h =
-    enters (counted n (suc depth)) (counted n depth) p under n n (counted_counts n (suc depth)) (counted_counts n depth)
-    (λ t g l. (omega (arith, l), omega (arith, g.1))) (λ t g. (g.0, omega (arith, g.1))) (λ t e. e) (λ c. c) (enter_to depth p under n)
+    enters (counted n (suc depth)) (counted n depth) p under under (itself (counted n depth) p under) n n (counted_counts n (suc depth)) (counted_counts n depth)
+    (λ t g l. (omega (arith, l), omega (arith, g.1))) (λ t g. (g.0, omega (arith, g.1))) (λ t e. e) (λ c. c) (λ c. c) (enter_to depth p under n)
     (enter_to depth p under n) (λ f xs u g. call_is_counted p under n depth f xs u g) function vs s h
 
 counted_so : (n : ℕ) (t : Progress) (e : Ending) → t.turns ≤ n → (e ≡ Paused → t.turns ≡ n) → CountsUpTo n (meaning_at t e)
@@ -130,7 +131,7 @@ turns_are_counted p under n =
 
 -- two depths, each more than the turns that are left
 abbrev deep : (n depth other : ℕ) → Law
-deep n depth other = record { good = λ t. (n + 1 ≤ depth + t) × (n + 1 ≤ other + t); over = λ _. ⊤; may_stop = ⊥ }
+deep n depth other = record { good = λ t. (n + 1 ≤ depth + t) × (n + 1 ≤ other + t); over = λ _. ⊤; may_stop = ⊥; may_act = ⊥ }
 
 deep_counts : (n depth other : ℕ) → Counts (deep n depth other) n n
 deep_counts n depth other =
@@ -149,21 +150,22 @@ two_depths p under n zero zero function vs s h = same (Stopped s) (now s) tt
 two_depths p under n zero (suc other) function vs s h = rw (le-leb n s.turns (omega (arith, h.0))) (same (Stopped s) (now s) tt)
 two_depths p under n (suc depth) zero function vs s h = rw (le-leb n s.turns (omega (arith, h.1))) (same (Stopped s) (now s) tt)
 two_depths p under n (suc depth) (suc other) function vs s h =
-    enters (deep n (suc depth) (suc other)) (deep n depth other) p under n n (deep_counts n (suc depth) (suc other)) (deep_counts n depth other)
-    (λ t g l. (omega (arith, g.0), omega (arith, g.1))) (λ t g. (omega (arith, g.0), omega (arith, g.1))) (λ t e. e) (λ c. c)
+    enters (deep n (suc depth) (suc other)) (deep n depth other) p under under (itself (deep n depth other) p under) n n (deep_counts n (suc depth) (suc other)) (deep_counts n depth other)
+    (λ t g l. (omega (arith, g.0), omega (arith, g.1))) (λ t g. (omega (arith, g.0), omega (arith, g.1))) (λ t e. e) (λ c. c) (λ c. c)
     (enter_to depth p under n) (enter_to other p under n) (λ f xs u g. two_depths p under n depth other f xs u g) function vs s h
 
-is_same : (law : Law) (s : Progress) (o o' : Outcome) → (law.may_stop → ⊥) → Follows law s o o' → o ≡ o'
-is_same law s _ _ never (same o l f) = refl
-is_same law s _ _ never (cut t o c l e m f) = absurd (never c)
+is_same : (law : Law) (s : Progress) (o o' : Outcome) → (law.may_stop → ⊥) → (law.may_act → ⊥) → Follows law s o o' → o ≡ o'
+is_same law s _ _ never nor (same o l f) = refl
+is_same law s _ _ never nor (cut t o c l e m f) = absurd (never c)
+is_same law s _ _ never nor (met a t o c l e m f) = absurd (nor c)
 
 pub depths_agree : DepthDoesNotMatter
 depths_agree p under n depth other function vs s a b =
-    is_same (deep n depth other) s _ _ (λ c. c) (two_depths p under n depth other function vs s (a, b))
+    is_same (deep n depth other) s _ _ (λ c. c) (λ c. c) (two_depths p under n depth other function vs s (a, b))
 
 -- more turns, and calls nested as deep or deeper
 abbrev more_turns : Law
-more_turns = record { good = λ _. ⊤; over = λ _. ⊤; may_stop = ⊤ }
+more_turns = record { good = λ _. ⊤; over = λ _. ⊤; may_stop = ⊤; may_act = ⊥ }
 
 more_counts : (n n' : ℕ) → n ≤ n' → Counts more_turns n n'
 more_counts n n' few = record { few = few; longer = λ l. tt; ends = λ t g l. tt; turn = λ t g l. tt }
@@ -184,7 +186,7 @@ module _ (p : Program) (under : Environment) (n n' : ℕ) (few : n ≤ n') where
       (all_fine (enter_to (suc other) p under n' function vs s))
   goes_further (suc depth) zero function vs s h = absurd (omega (arith, h))
   goes_further (suc depth) (suc other) function vs s h =
-      further more_turns p under n n' (more_counts n n' few) depth other (λ f xs u g. goes_further depth other f xs u (omega (arith, h)))
+      further more_turns p under under (itself more_turns p under) n n' (more_counts n n' few) depth other (λ f xs u g. goes_further depth other f xs u (omega (arith, h)))
       function vs s tt
 
 goes_on_itself : (m : Meaning) → GoesOn m m
@@ -207,6 +209,7 @@ paused_first t (Stopped u) l = paused_before t u Paused l
 goes_on : (s : Progress) (o o' : Outcome) → Follows more_turns s o o' → GoesOn (meaning_of o) (meaning_of o')
 goes_on s _ _ (same o l f) = goes_on_itself (meaning_of o)
 goes_on s _ _ (cut t o c l e m f) = paused_first t o m
+goes_on s _ _ (met a t o c l e m f) = absurd c
 
 pub more_turns_go_on : MoreTurnsGoOn
 more_turns_go_on p under n more =

@@ -35,11 +35,12 @@ pub turned : (s : Progress) → IsLater s (with_turn s)
 turned s = record { output = ([], sym (append-nil s.output)); marks = ([], sym (append-nil s.marks)); turns = omega arith }
 
 -- What two evaluations have in common: the numbers of turns from which they go on, those at which one may be stopped, and
--- whether the first may be stopped before the second.
+-- whether the first may be stopped, or meet an act, before the second.
 pub record Law : Type 1 where
   pub good : ℕ → Type 0
   pub over : ℕ → Type 0
   pub may_stop : Type 0
+  pub may_act : Type 0
 
 abbrev pub Fine : Law → Outcome → Type 0
 Fine law (Went v s) = law.good s.turns
@@ -51,19 +52,43 @@ pub data Follows (law : Law) (s : Progress) : Outcome → Outcome → Type 0 whe
   same : (o : Outcome) → IsLater s (progress_of o) → Fine law o → Follows law s o o
   cut : (t : Progress) (o : Outcome) → law.may_stop → IsLater s t → law.over t.turns → IsLater t (progress_of o) → Fine law o
       → Follows law s (Stopped t) o
+  met : (a : Act) (t : Progress) (o : Outcome) → law.may_act → IsLater s t → law.good t.turns → IsLater t (progress_of o) → Fine law o
+      → Follows law s (Undefined a t) o
+
+-- two results: the same, or the first is an act
+pub data Agrees (law : Law) {A : Type 0} : Result A Act → Result A Act → Type 0 where
+  same_result : (r : Result A Act) → Agrees law r r
+  first_acts : (a : Act) (r : Result A Act) → law.may_act → Agrees law (Err a) r
 
 module _ (law : Law) where
   pub from : (s t : Progress) (o o' : Outcome) → IsLater s t → Follows law t o o' → Follows law s o o'
   from s t _ _ l (same o m f) = same o (later s t (progress_of o) l m) f
   from s t _ _ l (cut u o c m e k f) = cut u o c (later s t u l m) e k f
+  from s t _ _ l (met a u o c m e k f) = met a u o c (later s t u l m) e k f
 
   pub second_is_later : (s : Progress) (o o' : Outcome) → Follows law s o o' → IsLater s (progress_of o')
   second_is_later s _ _ (same o l f) = l
   second_is_later s _ _ (cut t o c l e m f) = later s t (progress_of o) l m
+  second_is_later s _ _ (met a t o c l e m f) = later s t (progress_of o) l m
 
   pub second_is_fine : (s : Progress) (o o' : Outcome) → Follows law s o o' → Fine law o'
   second_is_fine s _ _ (same o l f) = f
   second_is_fine s _ _ (cut t o c l e m f) = f
+  second_is_fine s _ _ (met a t o c l e m f) = f
+
+  -- what the second comes to, where the first has ended at t
+  abbrev pub Onward : Progress → Outcome → Type 0
+  Onward t o = IsLater t (progress_of o) × Fine law o
+
+  pub second_onward : (s t : Progress) (o o' : Outcome) → IsLater t s → Follows law s o o' → Onward t o'
+  second_onward s t o o' l f = (later t s (progress_of o') l (second_is_later s o o' f), second_is_fine s o o' f)
+
+  bind_onward : (go go' : Value → Progress → Outcome) (s t : Progress) (o : Outcome) → IsLater s t → IsLater t (progress_of o) → Fine law o
+      → ((v : Value) (u : Progress) → IsLater s u → law.good u.turns → Follows law u (go v u) (go' v u)) → Onward t (and_then o go')
+  bind_onward go go' s t (Went v u) l m f k = second_onward u t (go v u) (go' v u) m (k v u (later s t u l m) f)
+  bind_onward go go' s t (Left how u) l m f k = (m, f)
+  bind_onward go go' s t (Undefined a u) l m f k = (m, f)
+  bind_onward go go' s t (Stopped u) l m f k = (m, f)
 
   pub bind : (go go' : Value → Progress → Outcome) (s : Progress) (o o' : Outcome) → Follows law s o o'
       → ((v : Value) (u : Progress) → IsLater s u → law.good u.turns → Follows law u (go v u) (go' v u))
@@ -72,13 +97,10 @@ module _ (law : Law) where
   bind go go' s _ _ (same (Left how t) l f) k = same (Left how t) l f
   bind go go' s _ _ (same (Undefined a t) l f) k = same (Undefined a t) l f
   bind go go' s _ _ (same (Stopped t) l f) k = same (Stopped t) l f
-  bind go go' s _ _ (cut t (Went v u) c l e m f) k =
-      let next : Follows law u (go v u) (go' v u) = k v u (later s t u l m) f in
-      cut t (go' v u) c l e (later t u (progress_of (go' v u)) m (second_is_later u (go v u) (go' v u) next))
-      (second_is_fine u (go v u) (go' v u) next)
-  bind go go' s _ _ (cut t (Left how u) c l e m f) k = cut t (Left how u) c l e m f
-  bind go go' s _ _ (cut t (Undefined a u) c l e m f) k = cut t (Undefined a u) c l e m f
-  bind go go' s _ _ (cut t (Stopped u) c l e m f) k = cut t (Stopped u) c l e m f
+  bind go go' s _ _ (cut t o c l e m f) k =
+      let on : Onward t (and_then o go') = bind_onward go go' s t o l m f k in cut t (and_then o go') c l e on.0 on.1
+  bind go go' s _ _ (met a t o c l e m f) k =
+      let on : Onward t (and_then o go') = bind_onward go go' s t o l m f k in met a t (and_then o go') c l e on.0 on.1
 
   -- each way to go on
 
@@ -86,6 +108,13 @@ module _ (law : Law) where
       → ((x : A) → Follows law s (go x s) (go' x s)) → Follows law s (with_result r s go) (with_result r s go')
   through_result (Ok x) s go go' h k = k x
   through_result (Err a) s go go' h k = same (Undefined a s) (now s) h
+
+  pub through_results : {A : Type 0} (r r' : Result A Act) (s : Progress) (go go' : A → Progress → Outcome) → Agrees law r r'
+      → law.good s.turns → ((x : A) → Follows law s (go x s) (go' x s)) → Follows law s (with_result r s go) (with_result r' s go')
+  through_results _ _ s go go' (same_result r) h k = through_result r s go go' h k
+  through_results _ _ s go go' (first_acts a (Ok x) c) h k =
+      met a s (go' x s) c (now s) h (second_is_later s (go x s) (go' x s) (k x)) (second_is_fine s (go x s) (go' x s) (k x))
+  through_results _ _ s go go' (first_acts a (Err b) c) h k = met a s (Undefined b s) c (now s) h (now s) h
 
   pub through_either : (b : Bool) (s : Progress) (a a' c c' : Progress → Outcome)
       → Follows law s (a s) (a' s) → Follows law s (c s) (c' s) → Follows law s (either b a c s) (either b a' c' s)
@@ -134,13 +163,15 @@ module _ (law : Law) where
   through_all (v ∷ vs) s go go' h k = through_value v s _ _ h (λ x. through_all vs s _ _ h (λ xs. k (x ∷ xs)))
 
 -- the same by a law that asks less
-pub weaken : (strong law : Law) → ((t : ℕ) → strong.good t → law.good t) → ((t : ℕ) → strong.over t → law.over t)
-    → (strong.may_stop → law.may_stop) → (s : Progress) (o o' : Outcome) → Follows strong s o o' → Follows law s o o'
-weaken strong law good over may s _ _ (same (Went v t) l f) = same (Went v t) l (good t.turns f)
-weaken strong law good over may s _ _ (same (Left how t) l f) = same (Left how t) l (good t.turns f)
-weaken strong law good over may s _ _ (same (Undefined a t) l f) = same (Undefined a t) l (good t.turns f)
-weaken strong law good over may s _ _ (same (Stopped t) l f) = same (Stopped t) l (over t.turns f)
-weaken strong law good over may s _ _ (cut u (Went v t) c l e m f) = cut u (Went v t) (may c) l (over u.turns e) m (good t.turns f)
-weaken strong law good over may s _ _ (cut u (Left how t) c l e m f) = cut u (Left how t) (may c) l (over u.turns e) m (good t.turns f)
-weaken strong law good over may s _ _ (cut u (Undefined a t) c l e m f) = cut u (Undefined a t) (may c) l (over u.turns e) m (good t.turns f)
-weaken strong law good over may s _ _ (cut u (Stopped t) c l e m f) = cut u (Stopped t) (may c) l (over u.turns e) m (over t.turns f)
+module _ (strong law : Law) (good : (t : ℕ) → strong.good t → law.good t) (over : (t : ℕ) → strong.over t → law.over t)
+    (may : strong.may_stop → law.may_stop) (may_act : strong.may_act → law.may_act) where
+  weaken_fine : (o : Outcome) → Fine strong o → Fine law o
+  weaken_fine (Went v t) f = good t.turns f
+  weaken_fine (Left how t) f = good t.turns f
+  weaken_fine (Undefined a t) f = good t.turns f
+  weaken_fine (Stopped t) f = over t.turns f
+
+  pub weaken : (s : Progress) (o o' : Outcome) → Follows strong s o o' → Follows law s o o'
+  weaken s _ _ (same o l f) = same o l (weaken_fine o f)
+  weaken s _ _ (cut t o c l e m f) = cut t o (may c) l (over t.turns e) m (weaken_fine o f)
+  weaken s _ _ (met a t o c l e m f) = met a t o (may_act c) l (good t.turns e) m (weaken_fine o f)

@@ -17,7 +17,7 @@ use Rattle.porch_mean.specs.Outcome.{Outcome, Went, Undefined, done, with_result
 use Rattle.porch_mean.specs.Printing.{give_count, show_line, show_character, with_text, with_piece, show_pieces}
 use Rattle.porch_mean.specs.Expression.{with_mark, reach_checkpoint, mark_freed, release, load_at, member_at, member_value, store_value, assign_at, allocate}
 use Rattle.porch_mean.specs.Laws.{IsLater}
-use Rattle.porch_mean.proofs.Follows.{Law, Follows, same, now, later, stored, shown, marked, from, through_result, through_number}
+use Rattle.porch_mean.proofs.Follows.{Law, Agrees, Follows, same, now, later, stored, shown, marked, from, through_result, through_results, through_number}
 
 mark_freed_later : (v : Value) (s : Progress) → IsLater s (mark_freed v s)
 mark_freed_later (number z) s = marked s freed
@@ -43,6 +43,10 @@ module _ (law : Law) where
   pub gives : (r : Result Value Act) (s : Progress) → law.good s.turns
       → Follows law s (with_result r s (λ v s. Went v s)) (with_result r s (λ v s. Went v s))
   gives r s h = through_result law r s _ _ h (λ v. same (Went v s) (now s) h)
+
+  pub agreed : (r r' : Result Value Act) (s : Progress) → Agrees law r r' → law.good s.turns
+      → Follows law s (with_result r s (λ v s. Went v s)) (with_result r' s (λ v s. Went v s))
+  agreed r r' s a h = through_results law r r' s _ _ a h (λ v. same (Went v s) (now s) h)
 
   pub loads : (at : Value) (s : Progress) → law.good s.turns → Follows law s (load_at at s) (load_at at s)
   loads at s h = gives (pointers.load s.store at) s h

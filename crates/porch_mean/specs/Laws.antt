@@ -1,7 +1,10 @@
 -- Laws of every run.
 use Rattle.std.specs.Prelude.{◌≡◌, ◌≢◌, ◌≤◌, ℕ, ◌+◌, List, ◌++◌}
+use Rattle.porch_values.specs.declared.acts.Act.{Act}
+use Rattle.porch_values.specs.declared.widths.Widths.{Widths}
+use Rattle.porch_values.specs.Widths.{AreWithin}
 use Rattle.porch_objects.specs.Store.{Value}
-use Rattle.porch_objects.specs.Meaning.{Environment, Mark, Progress, Meaning, Paused}
+use Rattle.porch_objects.specs.Meaning.{Environment, Mark, Progress, Meaning, Met, Paused}
 use Rattle.porch_typed.specs.Mirror.{Program}
 use Rattle.porch_mean.specs.Outcome.{Outcome, Went, Left, Undefined, Stopped}
 use Rattle.porch_mean.specs.Mean.{enter_to, mean}
@@ -47,3 +50,12 @@ pub record GoesOn (m more : Meaning) : Type 0 where
 
 abbrev pub MoreTurnsGoOn : Type 0
 MoreTurnsGoOn = (p : Program) (under : Environment) (n more : ℕ) → GoesOn (mean p under n) (mean p under (n + more))
+
+-- the same environment with other widths of long
+abbrev pub in_widths : Environment → Widths → Environment
+in_widths under widths = record { widths = widths; input = under.input; ended = under.ended }
+
+-- What a program means in some widths of long without meeting an act, it means in fewer of them.
+abbrev pub FewerWidthsMeanTheSame : Type 0
+FewerWidthsMeanTheSame = (p : Program) (under : Environment) (n : ℕ) (fewer : Widths) → AreWithin fewer under.widths
+    → ((a : Act) → (mean p under n).ending ≢ Met a) → mean p (in_widths under fewer) n ≡ mean p under n

@@ -1,6 +1,8 @@
 //! What is proved of every run. The functions are laws, and have nothing to run.
 
-ghost use Rattle.porch_mean.specs.Laws.{CallsOnlyAdd, DepthDoesNotMatter, MoreTurnsGoOn, TurnsAreCounted};
+ghost use Rattle.porch_mean.specs.Laws.{CallsOnlyAdd, DepthDoesNotMatter, MoreTurnsGoOn, TurnsAreCounted, FewerWidthsMeanTheSame};
+
+use porch_values::fewer_widths_agree;
 
 /// A call only adds to what was shown and marked, and to the turns, however it comes out.
 pub fn calls_only_add()
@@ -21,3 +23,10 @@ pub fn more_turns_go_on()
 pub fn turns_are_counted()
     ensures { TurnsAreCounted }
 {}
+
+/// What a program means in some widths of `long` without undefined behaviour, it means in fewer of them.
+pub fn fewer_widths_mean_the_same()
+    ensures { FewerWidthsMeanTheSame }
+{
+    fewer_widths_agree();
+}
