@@ -1,17 +1,17 @@
 -- Each undefined act, and what is none beside it.
 use Rattle.std.specs.Prelude.{ℕ, pos, negsuc, false, [], ◌∷◌}
 use Rattle.porch_types.specs.declared.shapes.Kind.{Kind}
-use Rattle.porch_types.specs.declared.shapes.Kind.TheVariants.{Char, Int, Long, ULong}
+use Rattle.porch_types.specs.declared.shapes.Kind.TheVariants.{Char, Int, UInt, Long, ULong}
 use Rattle.porch_values.specs.declared.acts.Act.TheVariants as act
 use Rattle.porch_values.specs.declared.acts.Op.TheVariants.{Add, Div, Rem, Shl}
 use Rattle.porch_objects.specs.Meaning.{allocated, freed, Ended, Met}
-use Rattle.porch_typed.specs.declared.typed.Comparison.TheVariants.{Less, NotEqual}
+use Rattle.porch_typed.specs.declared.typed.Comparison.TheVariants.{Less, Equal, NotEqual}
 use Rattle.porch_typed.specs.declared.typed.Direction.TheVariants.{Forward}
 use Rattle.porch_typed.specs.declared.typed.Operator.TheVariants as operator
 use Rattle.porch_typed.specs.declared.typed.Unary.TheVariants.{Complement}
 use Rattle.porch_typed.specs.Mirror.{Expression, Program}
 use Rattle.porch_typed.specs.Mirror as tree
-use Rattle.porch_mean.specs.worked.Write.{program, give, wide, narrow, both, INT, LONG, ULONG, INT_POINTER, PAIR, SQUARE, int, long, local, join, combine, pointer_in, at, behind, array, inner, compare, evaluate, declare, global, main_of, Means, Gives, Meets}
+use Rattle.porch_mean.specs.worked.Write.{program, give, wide, narrow, both, INT, LONG, ULONG, INT_POINTER, PAIR, SQUARE, int, long, local, join, combine, comma, pointer_in, at, behind, array, inner, compare, evaluate, declare, global, main_of, Means, Gives, Meets}
 
 -- an expression statement in main, with an int variable that is z
 abbrev pub with_int : Expression → Expression → Program
@@ -147,3 +147,59 @@ PointersEndWithTheirObject =
     ∷ evaluate (tree.assign INT (tree.pointee (pointer_in (tree.variable 0))) (int 1)) ∷ evaluate (tree.release (pointer_in (tree.variable 0)))
     ∷ evaluate (pointer_in (tree.variable 0)) ∷ []))
     both 9 [] (allocated 1 1 ∷ freed ∷ []) 1 (Met act.Indeterminate)
+
+-- int *p=malloc(sizeof(int)); *p=1; and then an expression statement
+abbrev pub with_block : Expression → Program
+with_block e =
+    main_of [] (INT_POINTER ∷ [])
+    (tree.declare 0 (tree.value (tree.allocate INT_POINTER false (int 1)))
+    ∷ evaluate (tree.assign INT (tree.pointee (pointer_in (tree.variable 0))) (int 1)) ∷ evaluate e ∷ [])
+
+abbrev pub p : Expression
+p = pointer_in (tree.variable 0)
+
+abbrev pub freed_then : Expression → Expression
+freed_then e = comma (tree.release p) e
+
+abbrev pub FreedThenMeets : Expression → Type 0
+FreedThenMeets e = Means (with_block e) both 9 [] (allocated 1 1 ∷ freed ∷ []) 1 (Met act.Indeterminate)
+
+-- p==(free(p),NULL), *p=(free(p),1) and (free(p),free(p)): what is held or read is gone
+abbrev pub HeldPointersEnd : Type 0
+HeldPointersEnd =
+    FreedThenMeets (compare Equal p (freed_then (tree.null_pointer INT_POINTER)))
+    × FreedThenMeets (tree.assign INT (tree.pointee p) (freed_then (int 1))) × FreedThenMeets (freed_then (tree.release p))
+
+-- free(p+1)
+abbrev pub FreesOnlyWholeBlocks : Type 0
+FreesOnlyWholeBlocks = Means (with_block (tree.release (behind p 1))) both 9 [] (allocated 1 1 ∷ []) 1 (Met act.Free)
+
+-- malloc(2147483648u*sizeof(int))
+abbrev pub CountsHaveAnEnd : Type 0
+CountsHaveAnEnd = Meets (with_globals (tree.allocate INT_POINTER false (tree.constant UInt (pos 2147483648)))) 9 [] 1 act.Count
+
+-- long l=2147483647; l+1; return 0;
+abbrev pub long_sum : Program
+long_sum =
+    main_of [] (LONG ∷ [])
+    (tree.declare 0 (tree.value (long 2147483647))
+    ∷ evaluate (join (tree.read LONG (tree.variable 0)) (operator.Arithmetic Add Long) (int 1)) ∷ [])
+
+-- (unsigned long)-1
+abbrev pub unsigned_minus_one : Program
+unsigned_minus_one = main_of [] [] (evaluate (tree.conversion ULong (tree.constant Int (negsuc 0))) ∷ [])
+
+-- (long)4294967295u
+abbrev pub wide_conversion : Program
+wide_conversion = main_of [] [] (evaluate (tree.conversion Long (tree.constant UInt (pos 4294967295))) ∷ [])
+
+abbrev pub LongsGoByWidth : Type 0
+LongsGoByWidth =
+    Means long_sum wide 9 [] [] 1 (Ended (pos 0)) × Means long_sum narrow 9 [] [] 1 (Met act.Overflow)
+    × Means long_sum both 9 [] [] 1 (Met act.Overflow) × Means wide_conversion wide 9 [] [] 1 (Ended (pos 0))
+    × Means wide_conversion narrow 9 [] [] 1 (Met act.Overflow)
+
+abbrev pub ConversionsGoByWidth : Type 0
+ConversionsGoByWidth =
+    Means unsigned_minus_one wide 9 [] [] 1 (Ended (pos 0)) × Means unsigned_minus_one narrow 9 [] [] 1 (Ended (pos 0))
+    × Means unsigned_minus_one both 9 [] [] 1 (Met act.Narrow)
