@@ -1,0 +1,10 @@
+//! What every program of the language means: definitions over the typed tree, and programs that are worked out.
+//!
+//! `specs/Mean` is where to start: the run of `main`, and calls. `specs/Statement` and `specs/Expression` say what each
+//! form of the tree does, `specs/Operators`, `specs/Printing` and `specs/Initial` what they use, and `specs/Outcome` how one
+//! evaluation follows another. Nothing here has a body to run: each function of `worked` states what some programs mean,
+//! and the check computes it.
+#![tactic(auto)]
+
+pub mod laws;
+pub mod worked;
