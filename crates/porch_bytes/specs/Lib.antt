@@ -1,0 +1,2 @@
+-- how a leaf's bytes are a number
+pub mod Leaf
