@@ -1,2 +1,12 @@
+-- where globals, the stack, its frames and the heap lie
+pub mod Memory
 -- how a leaf's bytes are a number
 pub mod Leaf
+-- what runs, and what it begins with
+pub mod State
+-- what each command does to memory
+pub mod Column
+-- what a run is
+pub mod ByteRun
+-- programs that are worked out
+pub mod Worked

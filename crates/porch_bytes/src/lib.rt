@@ -1,7 +1,13 @@
 //! The byte machine for every command of the flat text: a program over memory under a layout.
 //!
-//! `specs/Leaf` says how the bytes of a leaf are a number, and `leaf.rt` reads and writes such numbers.
-//! No command uses this crate yet; `exec` runs the machine of `porch_machine`.
+//! Start at `specs/Column`, which says what each command does to memory. `specs/Memory` says where objects lie,
+//! `specs/Leaf` how the bytes of a leaf are a number, `specs/State` what runs, and `specs/ByteRun` what a run
+//! is; `specs/Worked` has programs that are worked out under several layouts. In code stand so far the numbers
+//! in memory (`leaf.rt`). No command uses this crate yet; `exec` runs the machine of `porch_machine`.
 #![tactic(auto)]
 
+mod laws;
 pub mod leaf;
+pub mod worked;
+
+pub use laws::runs_have_one_end;
