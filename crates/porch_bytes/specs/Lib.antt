@@ -8,5 +8,9 @@ pub mod State
 pub mod Column
 -- what a run is
 pub mod ByteRun
+-- what holds of a machine in itself
+pub mod Fits
+-- when memory stands for a state of the flat abstract machine
+pub mod StandsFor
 -- programs that are worked out
 pub mod Worked
