@@ -2,6 +2,8 @@
 pub mod Memory
 -- how a leaf's bytes are a number
 pub mod Leaf
+-- leaves by their size and sign
+pub mod Shapes
 -- what runs, and what it begins with
 pub mod State
 -- what each command does to memory

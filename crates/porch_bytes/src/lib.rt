@@ -9,6 +9,7 @@
 
 mod laws;
 pub mod leaf;
+pub mod shape;
 pub mod worked;
 
 pub use laws::runs_have_one_end;
