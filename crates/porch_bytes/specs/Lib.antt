@@ -4,6 +4,8 @@ pub mod Memory
 pub mod Leaf
 -- leaves by their size and sign
 pub mod Shapes
+-- which bytes may be read and written
+pub mod Access
 -- what runs, and what it begins with
 pub mod State
 -- what each command does to memory

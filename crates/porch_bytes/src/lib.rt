@@ -7,6 +7,7 @@
 //! In code stand so far the numbers in memory (`leaf.rt`). No command uses this crate yet; `exec` runs the machine of `porch_machine`.
 #![tactic(auto)]
 
+pub mod access;
 mod laws;
 pub mod leaf;
 pub mod shape;
