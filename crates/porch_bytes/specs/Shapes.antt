@@ -1,5 +1,5 @@
 -- The size of a leaf's number, and whether it may be negative: all that its bytes depend on.
-use Rattle.std.specs.Prelude.{ℕ, ◌==◌, Bool, true, false, List, ℤ, if◌then◌else◌, Option, Some}
+use Rattle.std.specs.Prelude.{◌-◌, ◌^◌, ◌&&◌, pos, neg_ℤ, int_le, ℕ, ◌==◌, Bool, true, false, List, ℤ, if◌then◌else◌, Option, Some}
 use Rattle.porch_types.specs.declared.shapes.Kind.{Kind}
 use Rattle.porch_types.specs.declared.shapes.Kind.TheVariants as kind
 use Rattle.porch_types.specs.declared.shapes.Ty.{Ty}
@@ -57,3 +57,24 @@ kind_shape under kind.ULong = unsigned_of under.long
 abbrev pub shape_of : Layout → Option Ty → Shape
 shape_of under (Some (Whole kind)) = kind_shape under kind
 shape_of under ty = unsigned_of under.pointer
+
+-- the numbers of a shape
+abbrev pub least_in : Shape → ℤ
+least_in I8 = neg_ℤ (pos (2 ^ 7))
+least_in I16 = neg_ℤ (pos (2 ^ 15))
+least_in I32 = neg_ℤ (pos (2 ^ 31))
+least_in I64 = neg_ℤ (pos (2 ^ 63))
+least_in shape = pos 0
+
+abbrev pub greatest_in : Shape → ℤ
+greatest_in I8 = pos (2 ^ 7 - 1)
+greatest_in U8 = pos (2 ^ 8 - 1)
+greatest_in I16 = pos (2 ^ 15 - 1)
+greatest_in U16 = pos (2 ^ 16 - 1)
+greatest_in I32 = pos (2 ^ 31 - 1)
+greatest_in U32 = pos (2 ^ 32 - 1)
+greatest_in I64 = pos (2 ^ 63 - 1)
+greatest_in U64 = pos (2 ^ 64 - 1)
+
+abbrev pub is_in_shape : Shape → ℤ → Bool
+is_in_shape shape z = int_le (least_in shape) z && int_le z (greatest_in shape)

@@ -8,6 +8,8 @@
 #![tactic(auto)]
 
 pub mod access;
+mod act;
+mod instruction;
 mod laws;
 pub mod leaf;
 pub mod shape;

@@ -1,9 +1,8 @@
 //! Numbers in memory, by the size of a leaf and whether it may be negative.
 
-ghost use Rattle.std.specs.Prelude.{◌≡◌, ◌≤◌, ◌+◌, length, Some};
-ghost use Rattle.porch_types.specs.declared.shapes.Ty.TheVariants.{Whole};
+ghost use Rattle.std.specs.Prelude.{◌≡◌, ◌≤◌, ◌+◌, length, IsTrue};
 ghost use Rattle.porch_bytes.specs.Leaf.{with_number};
-ghost use Rattle.porch_bytes.specs.Shapes.{size_in, number_in, with_number_in, kind_shape, signed_of, unsigned_of};
+ghost use Rattle.porch_bytes.specs.Shapes.{size_in, is_in_shape, number_in, with_number_in, kind_shape, signed_of, unsigned_of};
 
 use crate::leaf::{
     read_i8, read_i16, read_i32, read_i64, read_u8, read_u16, read_u32, read_u64, write_u8,
@@ -40,7 +39,8 @@ pub fn size_of_shape(shape: Shape) -> u64
 /// The number at an address.
 pub fn read_number(memory: &[u8], at: usize, shape: Shape, big: bool) -> i128
     requires { at + size_in shape ≤ length memory.now }
-    ensures { result ≡ number_in big shape memory.now at }
+    ensures value { result ≡ number_in big shape memory.now at }
+    ensures fits { IsTrue (is_in_shape shape result) }
 {
     match shape {
         Shape::I8 => i128::from(read_i8(memory, at, big)),

@@ -1,0 +1,2 @@
+-- what the resolved commands do to memory
+pub mod Instructions
