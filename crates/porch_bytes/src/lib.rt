@@ -12,6 +12,8 @@ mod act;
 mod instruction;
 mod laws;
 pub mod leaf;
+mod resolve;
+mod scope;
 pub mod shape;
 pub mod worked;
 
