@@ -1,0 +1,3 @@
+-- what the resolved commands do to memory
+pub mod Instructions
+pub mod Resolved

@@ -1,0 +1,20 @@
+//! The byte machine for every command of the flat text: a program over memory under a layout.
+//!
+//! Start at `specs/Column`, which says what each command does to memory. `specs/Memory` says where objects lie,
+//! `specs/Leaf` how the bytes of a leaf are a number, `specs/State` what runs, and `specs/ByteRun` what a run
+//! is; `specs/Worked` has programs that are worked out under several layouts. `specs/Fits` says what holds of a
+//! machine in itself, and `specs/StandsFor` when its memory stands for a state of the flat abstract machine.
+//! In code stand so far the numbers in memory (`leaf.rt`). No command uses this crate yet; `exec` runs the machine of `porch_machine`.
+#![tactic(auto)]
+
+pub mod access;
+mod act;
+mod instruction;
+mod laws;
+pub mod leaf;
+mod resolve;
+mod scope;
+pub mod shape;
+pub mod worked;
+
+pub use laws::runs_have_one_end;
