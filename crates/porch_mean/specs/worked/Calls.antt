@@ -64,6 +64,13 @@ UsesNoValue =
     × Meets (with_nothing_given (tree.switch Int f tree.no_entries)) 9 [] 2 act.Indeterminate
     × Meets (with_nothing_given (show f)) 9 [] 2 act.Indeterminate
 
+-- int *f(void){} &*f();
+abbrev pub StarUsesItsOperand : Type 0
+StarUsesItsOperand =
+    Meets
+    (program [] [] (evaluate (tree.address INT_POINTER (tree.pointee f)) ∷ []) (function_of (Some INT_POINTER) 0 [] [] ∷ []))
+    9 [] 2 act.Indeterminate
+
 -- unsigned long g(void){} -1+g()==0: both operands are used before one is converted
 abbrev pub UsesBeforeConversions : Type 0
 UsesBeforeConversions =

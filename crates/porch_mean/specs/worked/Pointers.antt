@@ -58,10 +58,7 @@ StepsThroughAnArray =
     (at (join p (operator.Forward INT_POINTER) (tree.constant Int (negsuc 0))))) ∷ []) [])
     9 [] 1 (pos 25)
 
--- struct node {int v; struct node *next;}, and a pointer to one
-abbrev pub NODE : ℕ
-NODE = 20
-
+-- a pointer to struct node {int v; struct node *next;}
 abbrev pub NODE_POINTER : ℕ
 NODE_POINTER = 19
 

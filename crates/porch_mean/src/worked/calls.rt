@@ -1,6 +1,6 @@
 //! Calls: arguments, values, recursion, and objects that end with their call.
 
-ghost use Rattle.porch_mean.specs.worked.Calls.{Recurses, CallsEachOther, MainWithoutAValueGivesZero, MainMayEnd, DropsNoValue, UsesNoValue, UsesBeforeConversions, ObjectsEndWithTheirCall, CallersObjectsLive, ArgumentsAreConverted, ArgumentsComeBeforeTheTurn};
+ghost use Rattle.porch_mean.specs.worked.Calls.{Recurses, CallsEachOther, MainWithoutAValueGivesZero, MainMayEnd, DropsNoValue, UsesNoValue, StarUsesItsOperand, UsesBeforeConversions, ObjectsEndWithTheirCall, CallersObjectsLive, ArgumentsAreConverted, ArgumentsComeBeforeTheTurn};
 
 /// Functions call themselves and each other, and `main` gives 0 where it gives nothing.
 #[tactic(auto, unfolding(crate::proofs::Runs::runs_compute))]
@@ -16,6 +16,7 @@ pub fn calls_return()
 pub fn values_are_used()
     ensures dropped { DropsNoValue }
     ensures used { UsesNoValue }
+    ensures star { StarUsesItsOperand }
     ensures converted { UsesBeforeConversions }
 {}
 
