@@ -1,7 +1,8 @@
 #!/usr/bin/env bash
 # Proves and builds a measuring program in a copy of the crates that it stands on, and runs it. usage: [WITH=..] run.sh NAME WORD..
-# NAME is heap_times, value_times, type_times, flat_times, rewrite_times or lex_times; WITH is put before the run, as a profiler's
-# call. Files among the words have whole paths. NAME.txt is the program.
+# NAME is heap_times, value_times, type_times, flat_times, rewrite_times, abstract_times or lex_times; WITH is put before the run,
+# as a profiler's call. Files among the words have whole paths. NAME.txt is the program, and NAME_loop.txt, where it is there, what
+# the loop of its `run` keeps.
 set -eu
 top=$(cd "$(dirname "$0")/../.." && pwd)
 name=$1
@@ -14,6 +15,7 @@ flat='porch_types porch_values porch_flat porch_flat_line porch_flat_text'
 case $name in
     flat_times) base=$flat kit=sqlite_items ;;
     rewrite_times) base="$flat porch_objects porch_abstract porch_rewrite" kit=sqlite_items ;;
+    abstract_times) base="$flat porch_objects porch_live porch_abstract porch_steps" kit=sqlite_items ;;
     lex_times) base='porch_tree porch_lex' ;;
     *) base='porch_types porch_values porch_layout porch_metrics porch_heap' first=none ;;
 esac
@@ -25,6 +27,10 @@ for crate in $base; do
 done
 echo "$name: $base $kit" >> "$copy/crates.txt"
 cp "$top/docs/measured/$name.txt" "$copy/crates/$name/src/main.rt"
+if [ -e "$top/docs/measured/${name}_loop.txt" ]; then
+    mkdir -p "$copy/crates/$name/proofs/run"
+    cp "$top/docs/measured/${name}_loop.txt" "$copy/crates/$name/proofs/run/Invariants.antt"
+fi
 cd "$copy/crates/$name"
 if ! rt run -- $first > log 2>&1; then
     cat log

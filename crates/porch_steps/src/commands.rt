@@ -34,13 +34,13 @@ impl Run {
         &mut self,
         flat: &Flat,
         variable: u32,
-        read: Operand,
+        read: &Operand,
     ) -> Result<AStep, AllocError>
         requires running { self.old.phase ≡ Phase.Running }
         requires place { self.old.frame.next + 1 < 2 ^ 64 }
-        ensures done { Does flat.now self.old self.new (form.move variable read) result }
+        ensures done { Does flat.now self.old self.new (form.move variable read.now) result }
     {
-        let effect = compute_move(flat, self, variable, read);
+        let effect = compute_move(flat, self, variable, *read);
         self.take(effect)
     }
 
@@ -71,16 +71,17 @@ impl Run {
         widths: Widths,
         op: Op,
         to: u32,
-        left: Operand,
-        right: Operand,
+        left: &Operand,
+        right: &Operand,
     ) -> Result<AStep, AllocError>
         requires running { self.old.phase ≡ Phase.Running }
         requires place { self.old.frame.next + 1 < 2 ^ 64 }
         ensures done { Answers
-            (done_by flat.now (without_input widths) self.old (form.operator op to left right))
+            (done_by flat.now (without_input widths) self.old
+            (form.operator op to left.now right.now))
             (state_of self.old) (state_of self.new) result }
     {
-        let effect = compute_operator(flat, self, widths, op, to, left, right)?;
+        let effect = compute_operator(flat, self, widths, op, to, *left, *right)?;
         self.take(effect)
     }
 
@@ -91,15 +92,15 @@ impl Run {
         flat: &Flat,
         widths: Widths,
         to: u32,
-        read: Operand,
+        read: &Operand,
     ) -> Result<AStep, AllocError>
         requires running { self.old.phase ≡ Phase.Running }
         requires place { self.old.frame.next + 1 < 2 ^ 64 }
         ensures done { Answers
-            (done_by flat.now (without_input widths) self.old (form.complement to read))
+            (done_by flat.now (without_input widths) self.old (form.complement to read.now))
             (state_of self.old) (state_of self.new) result }
     {
-        let effect = compute_complement(flat, self, widths, to, read)?;
+        let effect = compute_complement(flat, self, widths, to, *read)?;
         self.take(effect)
     }
 
@@ -110,14 +111,15 @@ impl Run {
         flat: &Flat,
         how: Comparison,
         to: u32,
-        left: Operand,
-        right: Operand,
+        left: &Operand,
+        right: &Operand,
     ) -> Result<AStep, AllocError>
         requires running { self.old.phase ≡ Phase.Running }
         requires place { self.old.frame.next + 1 < 2 ^ 64 }
-        ensures done { Does flat.now self.old self.new (form.comparison how to left right) result }
+        ensures done { Does flat.now self.old self.new
+            (form.comparison how to left.now right.now) result }
     {
-        let effect = compute_comparison(flat, self, how, to, left, right);
+        let effect = compute_comparison(flat, self, how, to, *left, *right);
         self.take(effect)
     }
 
@@ -147,13 +149,13 @@ impl Run {
         way: Direction,
         to: u32,
         from: u32,
-        read: Operand,
+        read: &Operand,
     ) -> Result<AStep, AllocError>
         requires running { self.old.phase ≡ Phase.Running }
         requires place { self.old.frame.next + 1 < 2 ^ 64 }
-        ensures done { Does flat.now self.old self.new (form.step way to from read) result }
+        ensures done { Does flat.now self.old self.new (form.step way to from read.now) result }
     {
-        let effect = compute_step(flat, self, way, to, from, read)?;
+        let effect = compute_step(flat, self, way, to, from, *read)?;
         self.take(effect)
     }
 
@@ -208,13 +210,13 @@ impl Run {
         flat: &Flat,
         how: Display,
         variable: u32,
-        read: Operand,
+        read: &Operand,
     ) -> Result<AStep, AllocError>
         requires running { self.old.phase ≡ Phase.Running }
         requires place { self.old.frame.next + 1 < 2 ^ 64 }
-        ensures done { Does flat.now self.old self.new (form.show how variable read) result }
+        ensures done { Does flat.now self.old self.new (form.show how variable read.now) result }
     {
-        let effect = compute_show(flat, self, how, variable, read);
+        let effect = compute_show(flat, self, how, variable, *read);
         self.take(effect)
     }
 
@@ -241,15 +243,15 @@ impl Run {
         &mut self,
         flat: &Flat,
         labels: &[Labels],
-        read: Operand,
+        read: &Operand,
         label: u32,
     ) -> Result<AStep, AllocError>
         requires labels { AreLabels flat.now labels.now }
         requires running { self.old.phase ≡ Phase.Running }
         requires place { self.old.frame.next + 1 < 2 ^ 64 }
-        ensures done { Does flat.now self.old self.new (form.branch read label) result }
+        ensures done { Does flat.now self.old self.new (form.branch read.now label) result }
     {
-        let effect = compute_branch(flat, self, labels, read, label);
+        let effect = compute_branch(flat, self, labels, *read, label);
         self.take(effect)
     }
 
@@ -258,13 +260,13 @@ impl Run {
     pub(crate) fn perform_return(
         &mut self,
         flat: &Flat,
-        read: Option<Operand>,
+        read: &Option<Operand>,
     ) -> Result<AStep, AllocError>
         requires running { self.old.phase ≡ Phase.Running }
         requires place { self.old.frame.next + 1 < 2 ^ 64 }
-        ensures done { Does flat.now self.old self.new (form.return read) result }
+        ensures done { Does flat.now self.old self.new (form.return read.now) result }
     {
-        let effect = compute_return(flat, self, read);
+        let effect = compute_return(flat, self, *read);
         self.take(effect)
     }
 }

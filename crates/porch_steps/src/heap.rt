@@ -43,14 +43,14 @@ impl Run {
         &mut self,
         flat: &Flat,
         to: u32,
-        read: Operand,
+        read: &Operand,
     ) -> Result<AStep, AllocError>
         requires running { self.old.phase ≡ Phase.Running }
         requires place { self.old.frame.next + 1 < 2 ^ 64 }
-        ensures done { Does flat.now self.old self.new (form.store to read) result }
+        ensures done { Does flat.now self.old self.new (form.store to read.now) result }
     {
         let ty = pointee_type(flat, self, to);
-        let value = operand(flat, self, ty, read);
+        let value = operand(flat, self, ty, *read);
         let pointer = variable(self, to);
         match self.store.store(pointer, value) {
             Ok(()) => {
@@ -124,13 +124,13 @@ impl Run {
         flat: &Flat,
         zeros: bool,
         to: u32,
-        read: Operand,
+        read: &Operand,
     ) -> Result<AStep, AllocError>
         requires running { self.old.phase ≡ Phase.Running }
         requires place { self.old.frame.next + 1 < 2 ^ 64 }
-        ensures done { Does flat.now self.old self.new (form.allocate zeros to read) result }
+        ensures done { Does flat.now self.old self.new (form.allocate zeros to read.now) result }
     {
-        match operand(flat, self, None, read) {
+        match operand(flat, self, None, *read) {
             Value::Number(count) => self.allocate_number(alloc, flat, zeros, to, count),
             Value::Null => Ok(AStep::Act {
                 act: Act::Indeterminate,

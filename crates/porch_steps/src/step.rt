@@ -14,9 +14,11 @@ use crate::compute::code;
 use crate::frame::Phase;
 use crate::run::Run;
 use porch_abstract::AStep;
-use porch_flat::whole::{Command, Flat, Form, Labels, form_of_command, main_number};
+use porch_flat::whole::{
+    Command, Comparison, Direction, Display, Flat, Labels, Within, main_number,
+};
 use porch_live::Value;
-use porch_values::Widths;
+use porch_values::{Op, Widths};
 use std::alloc::{AllocError, Global};
 
 impl Run {
@@ -36,36 +38,73 @@ impl Run {
             (done_by flat.now (without_input widths) self.old (form_of command.now))
             (state_of self.old) (state_of self.new) result }
     {
-        match form_of_command(command) {
-            Form::Move(v, o) => self.perform_move(flat, v, o),
-            Form::Cast(v, w) => self.perform_cast(flat, widths, v, w),
-            Form::Operator(op, v, a, b) => self.perform_operator(flat, widths, op, v, a, b),
-            Form::Complement(v, o) => self.perform_complement(flat, widths, v, o),
-            Form::Comparison(how, v, a, b) => self.perform_comparison(flat, how, v, a, b),
-            Form::Subobject(v, within, leaf) => self.perform_subobject(flat, v, within, leaf),
-            Form::Step(way, v, p, o) => self.perform_step(flat, way, v, p, o),
-            Form::Difference(v, p, q) => self.perform_difference(flat, v, p, q),
-            Form::Load(v, p) => self.perform_load(flat, v, p),
-            Form::Store(p, o) => self.store_value(flat, p, o),
-            Form::Copy(p, q) => self.copy_struct(alloc, flat, p, q),
-            Form::Kill(v) => self.perform_kill(flat, v),
-            Form::Allocate(zeros, v, o) => self.allocate(alloc, flat, zeros, v, o),
-            Form::Free(p) => self.free(flat, p),
-            Form::Show(how, v, o) => self.perform_show(flat, how, v, o),
-            Form::Text(v, p) => self.text(alloc, flat, v, p),
-            Form::Label(_) => self.on(),
-            Form::Jump(n) => self.perform_jump(flat, labels, n),
-            Form::Branch(o, n) => self.perform_branch(flat, labels, o, n),
-            Form::Turn => self.count(),
-            Form::Call(into, function, operands) => {
-                self.call(alloc, flat, into, function, operands)
-            }
-            Form::Return(o) => self.perform_return(flat, o),
-            Form::Checkpoint => self.reach(),
-            Form::Restore(_) => self.on(),
-            Form::Table(_, _) => self.on(),
-            Form::Saved(_, _) => self.on(),
-            Form::Push(_) => self.on(),
+        match command {
+            Command::Move(v, o) => self.perform_move(flat, *v, o),
+            Command::Cast(v, w) => self.perform_cast(flat, widths, *v, *w),
+            Command::Add(v, a, b) => self.perform_operator(flat, widths, Op::Add, *v, a, b),
+            Command::Sub(v, a, b) => self.perform_operator(flat, widths, Op::Sub, *v, a, b),
+            Command::Mul(v, a, b) => self.perform_operator(flat, widths, Op::Mul, *v, a, b),
+            Command::Div(v, a, b) => self.perform_operator(flat, widths, Op::Div, *v, a, b),
+            Command::Rem(v, a, b) => self.perform_operator(flat, widths, Op::Rem, *v, a, b),
+            Command::And(v, a, b) => self.perform_operator(flat, widths, Op::And, *v, a, b),
+            Command::Or(v, a, b) => self.perform_operator(flat, widths, Op::Or, *v, a, b),
+            Command::Xor(v, a, b) => self.perform_operator(flat, widths, Op::Xor, *v, a, b),
+            Command::Shl(v, a, b) => self.perform_operator(flat, widths, Op::Shl, *v, a, b),
+            Command::Shr(v, a, b) => self.perform_operator(flat, widths, Op::Shr, *v, a, b),
+            Command::Not(v, o) => self.perform_complement(flat, widths, *v, o),
+            Command::Lt(v, a, b) => self.perform_comparison(flat, Comparison::Less, *v, a, b),
+            Command::Le(v, a, b) => self.perform_comparison(flat, Comparison::LessEqual, *v, a, b),
+            Command::Eq(v, a, b) => self.perform_comparison(flat, Comparison::Equal, *v, a, b),
+            Command::Ne(v, a, b) => self.perform_comparison(flat, Comparison::NotEqual, *v, a, b),
+            Command::Local(v, w, leaf) => self.perform_subobject(
+                flat,
+                *v,
+                Within::Variable(*w),
+                *leaf,
+            ),
+            Command::GlobalA(v, g, leaf) => self.perform_subobject(
+                flat,
+                *v,
+                Within::Global(*g),
+                *leaf,
+            ),
+            Command::Member(v, p, leaf) => self.perform_subobject(
+                flat,
+                *v,
+                Within::Pointee(*p),
+                *leaf,
+            ),
+            Command::Step(v, p, o) => self.perform_step(flat, Direction::Forward, *v, *p, o),
+            Command::Back(v, p, o) => self.perform_step(flat, Direction::Back, *v, *p, o),
+            Command::Diff(v, p, q) => self.perform_difference(flat, *v, *p, *q),
+            Command::Load(v, p) => self.perform_load(flat, *v, *p),
+            Command::Store(p, o) => self.store_value(flat, *p, o),
+            Command::Copy(p, q) => self.copy_struct(alloc, flat, *p, *q),
+            Command::Kill(v) => self.perform_kill(flat, *v),
+            Command::Alloc(v, o) => self.allocate(alloc, flat, false, *v, o),
+            Command::Calloc(v, o) => self.allocate(alloc, flat, true, *v, o),
+            Command::Free(p) => self.free(flat, *p),
+            Command::Char(v, o) => self.perform_show(flat, Display::Char, *v, o),
+            Command::Dec(v, o) => self.perform_show(flat, Display::Dec, *v, o),
+            Command::Hex(v, o) => self.perform_show(flat, Display::Hex, *v, o),
+            Command::Text(v, p) => self.text(alloc, flat, *v, *p),
+            Command::Label(_) => self.on(),
+            Command::Jump(n) => self.perform_jump(flat, labels, *n),
+            Command::If(o, n) => self.perform_branch(flat, labels, o, *n),
+            Command::Turn => self.count(),
+            Command::Call(into, function, operands) => self.call(
+                alloc,
+                flat,
+                *into,
+                *function,
+                operands.as_slice(),
+            ),
+            Command::Return(o) => self.perform_return(flat, o),
+            Command::Checkpoint => self.reach(),
+            Command::Restore(_) => self.on(),
+            Command::Table(_, _) => self.on(),
+            Command::Saved(_, _) => self.on(),
+            Command::Push(_) => self.on(),
         }
     }
 

@@ -1,0 +1,21 @@
+#!/usr/bin/env python3
+"""Prints a flat text with a loop of so many turns. usage: flat_loops.py N sums|calls|blocks
+
+`sums` is loop.c as it is lowered: three additions and an assignment a turn. `calls` calls a function of two variables in each
+turn, `blocks` allocates an object of three ints and frees it."""
+import sys
+
+turns, kind = int(sys.argv[1]), sys.argv[2]
+head = '/* porch flat text, version 1 */\n#include "porch.h"\n'
+inner = "FUNCTION(0, next, 4, 1);\nVAR(0, 4);\nVAR(1, 4);\nBEGIN();\nADD(v1, v0, 1);\nRETURN(v1);\nEND();\n"
+types = "ARRAY(8, 4, 3);\nPOINTER(9, 8);\n"
+bodies = {
+    "sums": "ADD(v1, v0, 1);\nADD(v1, v1, 0);\nADD(v1, v1, 0);\nMOVE(v0, v1);\n",
+    "calls": "CALL(v0, 0, v0);\n",
+    "blocks": "ALLOC(v2, 1);\nFREE(v2);\nADD(v0, v0, 1);\n",
+}
+before = {"sums": "", "calls": inner, "blocks": types}[kind]
+number = 1 if kind == "calls" else 0
+pointer = "VAR(2, 9);\n" if kind == "blocks" else ""
+print(f"{head}{before}FUNCTION({number}, main, 4, 0);\nVAR(0, 4);\nVAR(1, 4);\n{pointer}BEGIN();\nMOVE(v0, 0);\nJUMP(1);\nLABEL(0);\nTURN();\n"
+      f"{bodies[kind]}LABEL(1);\nLT(v1, v0, {turns});\nIF(v1, 0);\nRETURN(0);\nEND();")
