@@ -11,7 +11,7 @@ use Rattle.porch_lex.specs.declared.refusal.Refusal.{Refusal}
 use Rattle.porch_syntax.specs.Tree.{Program}
 use Rattle.porch_source.specs.declared.fault.SourceFault.{SourceFault}
 use Rattle.porch_source.specs.declared.fault.SourceFault.TheVariants.{Refused, Unbuilt, NoMemory}
-use Rattle.porch_source.specs.Sources.{IsSourceOf, IsFirstFault, in_tokens, in_grammar, IsUnbuilt, IsFault}
+use Rattle.porch_source.specs.Sources.{IsSourceOf, IsFirstRefusal, in_tokens, in_grammar, IsUnbuilt, IsFault}
 use Rattle.porch_values.specs.declared.acts.Act.{Act}
 use Rattle.porch_objects.specs.Meaning as meaning
 use Rattle.porch_objects.specs.Meaning.{Meaning, without_input}
@@ -158,10 +158,10 @@ long_fault told text (Some held) (Some rest) e r l =
     read_long told text rest whole r.1 l
 
 -- the first rule that it breaks is that of what was told
-same_fault : (told text : List ℕ) (a b : Option (List ℕ)) (r : Refusal) → a ≡ Some told → HasRead a b text → IsFirstFault told r → IsFirstFault text r
+same_fault : (told text : List ℕ) (a b : Option (List ℕ)) (r : Refusal) → a ≡ Some told → HasRead a b text → IsFirstRefusal told r → IsFirstRefusal text r
 same_fault told text a b r e h (in_tokens (inl l)) = in_tokens (inl (long_fault told text a b e h l.0, l.1))
-same_fault told text a b r e h (in_tokens (inr f)) = subst (λ x. IsFirstFault x r) (sym (same_text told text a b e f.0 h)) (in_tokens (inr f))
-same_fault told text a b r e h (in_grammar ts t g) = subst (λ x. IsFirstFault x r) (sym (same_text told text a b e t.0 h)) (in_grammar ts t g)
+same_fault told text a b r e h (in_tokens (inr f)) = subst (λ x. IsFirstRefusal x r) (sym (same_text told text a b e f.0 h)) (in_tokens (inr f))
+same_fault told text a b r e h (in_grammar ts t g) = subst (λ x. IsFirstRefusal x r) (sym (same_text told text a b e t.0 h)) (in_grammar ts t g)
 
 same_unbuilt : (told text : List ℕ) (a b : Option (List ℕ)) → a ≡ Some told → HasRead a b text → IsUnbuilt told → IsUnbuilt text
 same_unbuilt told text a b e h u = subst IsUnbuilt (sym (same_text told text a b e u.accepted.tokens.0 h)) u
@@ -201,15 +201,15 @@ into words text out out' e t k = record {
 
 -- That a text has one answer.
 pub record OneAnswer : Type 0 where
-  pub fault : (text : List ℕ) (r s : Refusal) → IsFirstFault text r → IsFirstFault text s → r ≡ s
-  pub program_or_fault : (text : List ℕ) (p : Program) (r : Refusal) → IsSourceOf text p → IsFirstFault text r → ⊥
+  pub fault : (text : List ℕ) (r s : Refusal) → IsFirstRefusal text r → IsFirstRefusal text s → r ≡ s
+  pub program_or_fault : (text : List ℕ) (p : Program) (r : Refusal) → IsSourceOf text p → IsFirstRefusal text r → ⊥
   pub program_or_unbuilt : (text : List ℕ) (p : Program) → IsSourceOf text p → IsUnbuilt text → ⊥
-  pub unbuilt_or_fault : (text : List ℕ) (r : Refusal) → IsUnbuilt text → IsFirstFault text r → ⊥
+  pub unbuilt_or_fault : (text : List ℕ) (r : Refusal) → IsUnbuilt text → IsFirstRefusal text r → ⊥
 
-pub one_answer : ((text : List ℕ) (r s : Refusal) → IsFirstFault text r → IsFirstFault text s → r ≡ s)
-    → ((text : List ℕ) (p : Program) (r : Refusal) → IsSourceOf text p → IsFirstFault text r → ⊥)
+pub one_answer : ((text : List ℕ) (r s : Refusal) → IsFirstRefusal text r → IsFirstRefusal text s → r ≡ s)
+    → ((text : List ℕ) (p : Program) (r : Refusal) → IsSourceOf text p → IsFirstRefusal text r → ⊥)
     → ((text : List ℕ) (p : Program) → IsSourceOf text p → IsUnbuilt text → ⊥)
-    → ((text : List ℕ) (r : Refusal) → IsUnbuilt text → IsFirstFault text r → ⊥) → OneAnswer
+    → ((text : List ℕ) (r : Refusal) → IsUnbuilt text → IsFirstRefusal text r → ⊥) → OneAnswer
 one_answer a b c d = record { fault = a; program_or_fault = b; program_or_unbuilt = c; unbuilt_or_fault = d }
 
 -- Statuses differ, and so do their parts.
@@ -334,7 +334,7 @@ module _ (words : List (List ℕ)) (c : Changes) (err err' : Option (List ℕ)) 
   ]
 
   module _ (one : OneAnswer) where
-    refused_by : (s : Status) → HasReason words c h.text s → (text : List ℕ) (budget : ℕ) → IsExec words budget → c.left ≡ Some text → (x : Refusal) → IsFirstFault text x
+    refused_by : (s : Status) → HasReason words c h.text s → (text : List ℕ) (budget : ℕ) → IsExec words budget → c.left ≡ Some text → (x : Refusal) → IsFirstRefusal text x
         → (Rose c.read_faults c.read_faults' → ⊥) → (s ≡ status.Refused x) ⊎ (s ≡ status.NoMemory)
     refused_by (status.Done value turns) r text budget o told x f calm = absurd (one.program_or_fault h.text r.1.ran.program x r.1.ran.source.is (same_fault text h.text c.left c.left' x told r.0 f))
     refused_by (status.Trap a turns) r text budget o told x f calm = absurd (one.program_or_fault h.text r.1.ran.program x r.1.ran.source.is (same_fault text h.text c.left c.left' x told r.0 f))

@@ -7,7 +7,7 @@ use Rattle.porch_edge.specs.Causes.{Rose}
 use Rattle.porch_edge.specs.Streams.{Grew, GrewByPrefix}
 use Rattle.porch_lex.specs.declared.refusal.Refusal.{Refusal}
 use Rattle.porch_syntax.specs.Tree.{Program}
-use Rattle.porch_source.specs.Sources.{IsSourceOf, IsFirstFault, IsUnbuilt}
+use Rattle.porch_source.specs.Sources.{IsSourceOf, IsFirstRefusal, IsUnbuilt}
 use Rattle.porch_types.specs.Leaves.{kind_types}
 use Rattle.porch_values.specs.declared.acts.Act.{Act}
 use Rattle.porch_objects.specs.Meaning as meaning
@@ -137,7 +137,7 @@ HasReason words c text (status.Paused turns) = HasRead c.left c.left' text × Ra
 HasReason words c text (status.StackFull asked left) = HasRead c.left c.left' text × ((turns : ℕ) × Ran words text c.held c.held' (StackFull asked left) turns)
 HasReason words c text status.Usage = ((turns : ℕ) → IsExec words turns → ⊥) × (c.left' ≡ c.left) × Grew c.held c.held' []
 HasReason words c text (status.Refused r) =
-    ((budget : ℕ) × IsExec words budget) × HasRead c.left c.left' text × IsFirstFault text r × Grew c.held c.held' []
+    ((budget : ℕ) × IsExec words budget) × HasRead c.left c.left' text × IsFirstRefusal text r × Grew c.held c.held' []
 HasReason words c text status.Unbuilt =
     ((budget : ℕ) × IsExec words budget) × HasRead c.left c.left' text × IsUnbuilt text × Grew c.held c.held' []
 HasReason words c text status.ReadFault = ((budget : ℕ) × IsExec words budget) × Rose c.read_faults c.read_faults' × Grew c.held c.held' []
@@ -175,7 +175,7 @@ pub record IsRefused (words : List (List ℕ)) (c : Changes) (r : Refusal) : Typ
   pub text : List ℕ
   pub ordered : (budget : ℕ) × IsExec words budget
   pub read : HasRead c.left c.left' text
-  pub fault : IsFirstFault text r
+  pub fault : IsFirstRefusal text r
   pub unwritten : Grew c.held c.held' []
 
 -- The source was read, breaks no rule that is looked at, and isn't in the part of the language that runs
@@ -256,7 +256,7 @@ WhereTold words c faults faults' Answers =
 -- A text that breaks a rule is refused with the first one that it breaks, unless memory is refused.
 abbrev pub Refuses : List (List ℕ) → Changes → ℕ → ℕ → Status → Type 0
 Refuses words c faults faults' answer =
-    WhereTold words c faults faults' (λ text. (r : Refusal) → IsFirstFault text r
+    WhereTold words c faults faults' (λ text. (r : Refusal) → IsFirstRefusal text r
     → (answer ≡ status.Refused r) ⊎ (answer ≡ status.NoMemory))
 
 -- One that breaks none and isn't in the part of the language that runs yet is left so.

@@ -12,7 +12,7 @@ use Rattle.porch_lex.specs.Words.{spelled}
 use Rattle.porch_syntax.specs.Tree.{Program}
 use Rattle.porch_syntax.specs.Language.{IsSource}
 use Rattle.porch_source.specs.Comments.{without_comments}
-use Rattle.porch_source.specs.Sources.{IsAccepted, IsSourceOf, IsUnbuilt, IsGrammarFault, IsFirstFault, in_tokens, in_grammar, rule_of}
+use Rattle.porch_source.specs.Sources.{IsAccepted, IsSourceOf, IsUnbuilt, IsGrammarFault, IsFirstRefusal, in_tokens, in_grammar, rule_of}
 
 nothing_left : {A : Type 0} → (n : ℕ) (xs : List A) → length xs ≤ n → drop n xs ≡ []
 nothing_left zero [] h = refl
@@ -103,22 +103,22 @@ module _ (alone : Alone) (text : List ℕ) where
       let same = alone.tokens text a.tokens b.tokens a.accepted.tokens b.accepted.tokens in
       alone.program (without_comments text b.tokens) p q (subst (λ ts. IsSource (without_comments text ts) p) same a.program) b.program
 
-  pub one_fault : (r s : Refusal) → IsFirstFault text r → IsFirstFault text s → r ≡ s
+  pub one_fault : (r s : Refusal) → IsFirstRefusal text r → IsFirstRefusal text s → r ≡ s
   one_fault r s (in_tokens a) (in_tokens b) = alone.fault text r s a b
   one_fault r s (in_tokens a) (in_grammar us t b) = absurd (alone.either text us r t a)
   one_fault r s (in_grammar ts t a) (in_tokens b) = absurd (alone.either text ts s t b)
   one_fault r s (in_grammar ts t a) (in_grammar us t' b) =
       grammar_fault_alone text us r s (subst (λ vs. IsGrammarFault text vs r) (alone.tokens text ts us t t') a) b
 
-  accepted_or_fault : (ts : List Token) (r : Refusal) → IsAccepted text ts → IsFirstFault text r → ⊥
+  accepted_or_fault : (ts : List Token) (r : Refusal) → IsAccepted text ts → IsFirstRefusal text r → ⊥
   accepted_or_fault ts r a (in_tokens b) = alone.either text ts r a.tokens b
   accepted_or_fault ts r a (in_grammar us t b) =
       accepted_faultless text ts r a (subst (λ vs. IsGrammarFault text vs r) (alone.tokens text us ts t a.tokens) b)
 
-  pub program_or_fault : (p : Program) (r : Refusal) → IsSourceOf text p → IsFirstFault text r → ⊥
+  pub program_or_fault : (p : Program) (r : Refusal) → IsSourceOf text p → IsFirstRefusal text r → ⊥
   program_or_fault p r a b = accepted_or_fault a.tokens r a.accepted b
 
-  pub unbuilt_or_fault : (r : Refusal) → IsUnbuilt text → IsFirstFault text r → ⊥
+  pub unbuilt_or_fault : (r : Refusal) → IsUnbuilt text → IsFirstRefusal text r → ⊥
   unbuilt_or_fault r a b = accepted_or_fault a.tokens r a.accepted b
 
   pub program_or_unbuilt : (p : Program) → IsSourceOf text p → IsUnbuilt text → ⊥

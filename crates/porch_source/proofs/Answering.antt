@@ -15,7 +15,7 @@ use Rattle.porch_syntax.specs.Language.{IsSource}
 use Rattle.porch_source.specs.declared.fault.SourceFault.{SourceFault}
 use Rattle.porch_source.specs.declared.fault.SourceFault.TheVariants.{Refused, Unbuilt, NoMemory}
 use Rattle.porch_source.specs.Comments.{without_comments}
-use Rattle.porch_source.specs.Sources.{IsAccepted, IsSourceOf, IsUnbuilt, IsFirstFault, in_grammar, IsFault, rule_of}
+use Rattle.porch_source.specs.Sources.{IsAccepted, IsSourceOf, IsUnbuilt, IsFirstRefusal, in_grammar, IsFault, rule_of}
 
 -- a text without a program of the language that runs
 pub unbuilt_for : (text clean : List ℕ) (ts : List Token) (r : Result Tree SourceFault) → clean ≡ without_comments text ts → IsAccepted text ts
@@ -29,17 +29,17 @@ unbuilt_for text clean ts (Err e) same a h = elim h [
 -- a text with a wrong token
 pub wrong_for : (text : List ℕ) (ts : List Token) (r : Refusal) (w : WrongToken) (o : Option WrongToken) → IsTokens text ts → o ≡ Some w
     → IsReachOf (spelled text ts) (wrong_of o) → r.at ≡ place_of (length text) (slice_get (spelled text ts) w.token) → r.rule ≡ rule_of (fault_of w.fault)
-    → IsFirstFault text r
+    → IsFirstRefusal text r
 wrong_for text ts r w o t e f place rule =
     in_grammar ts t (record { token = w.token; fault = fault_of w.fault; found = subst (λ x. IsReachOf (spelled text ts) (wrong_of x)) e f; place = place; rule = rule })
 
 -- That a text has one answer.
 pub record OneAnswer (text : List ℕ) : Type 0 where
   pub program : (p q : Program) → IsSourceOf text p → IsSourceOf text q → p ≡ q
-  pub fault : (r s : Refusal) → IsFirstFault text r → IsFirstFault text s → r ≡ s
-  pub program_or_fault : (p : Program) (r : Refusal) → IsSourceOf text p → IsFirstFault text r → ⊥
+  pub fault : (r s : Refusal) → IsFirstRefusal text r → IsFirstRefusal text s → r ≡ s
+  pub program_or_fault : (p : Program) (r : Refusal) → IsSourceOf text p → IsFirstRefusal text r → ⊥
   pub program_or_unbuilt : (p : Program) → IsSourceOf text p → IsUnbuilt text → ⊥
-  pub unbuilt_or_fault : (r : Refusal) → IsUnbuilt text → IsFirstFault text r → ⊥
+  pub unbuilt_or_fault : (r : Refusal) → IsUnbuilt text → IsFirstRefusal text r → ⊥
 
 module _ (text : List ℕ) (one : OneAnswer text) where
   pub only_for : (r : Result Tree SourceFault) → IfOk r (λ tree. IsSourceOf text (program_of tree)) → IfErr r (IsFault text)
@@ -50,7 +50,7 @@ module _ (text : List ℕ) (one : OneAnswer text) where
   only_for (Err NoMemory) a b p s = refl
 
   pub fault_for : (r : Result Tree SourceFault) → IfOk r (λ tree. IsSourceOf text (program_of tree)) → IfErr r (IsFault text)
-      → (x : Refusal) → IsFirstFault text x → MatchResult r (λ _. ⊥) (λ e. (e ≡ NoMemory) ⊎ (e ≡ Refused x))
+      → (x : Refusal) → IsFirstRefusal text x → MatchResult r (λ _. ⊥) (λ e. (e ≡ NoMemory) ⊎ (e ≡ Refused x))
   fault_for (Ok tree) a b x s = one.program_or_fault (program_of tree) x a s
   fault_for (Err (Refused r)) a b x s = inr (let k = one.fault r x b s in cc)
   fault_for (Err Unbuilt) a b x s = absurd (one.unbuilt_or_fault x b s)

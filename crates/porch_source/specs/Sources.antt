@@ -48,12 +48,12 @@ pub record IsGrammarFault (text : List ℕ) (ts : List Token) (r : Refusal) : Ty
   pub rule : r.rule ≡ rule_of fault
 
 -- The first rule that a text breaks: its size comes before its tokens, and all of these before its grammar.
-pub data IsFirstFault (text : List ℕ) (r : Refusal) : Type 0 where
-  in_tokens : IsFirstLexFault text r → IsFirstFault text r
-  in_grammar : (ts : List Token) → IsTokens text ts → IsGrammarFault text ts r → IsFirstFault text r
+pub data IsFirstRefusal (text : List ℕ) (r : Refusal) : Type 0 where
+  in_tokens : IsFirstLexFault text r → IsFirstRefusal text r
+  in_grammar : (ts : List Token) → IsTokens text ts → IsGrammarFault text ts r → IsFirstRefusal text r
 
 -- why a text has no program; memory may be refused at any time
 abbrev pub IsFault : List ℕ → SourceFault → Type 0
-IsFault text (Refused r) = IsFirstFault text r
+IsFault text (Refused r) = IsFirstRefusal text r
 IsFault text Unbuilt = IsUnbuilt text
 IsFault text NoMemory = Unit {0}

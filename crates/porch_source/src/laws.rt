@@ -7,7 +7,7 @@ ghost use Rattle.porch_lex.specs.Tokens.{IsTokens};
 ghost use Rattle.porch_lex.specs.Words.{spelled};
 ghost use Rattle.porch_syntax.specs.Tree.{Program};
 ghost use Rattle.porch_source.specs.Comments.{KeepsPlaces, without_comments};
-ghost use Rattle.porch_source.specs.Sources.{IsSourceOf, IsUnbuilt, IsFirstFault};
+ghost use Rattle.porch_source.specs.Sources.{IsSourceOf, IsUnbuilt, IsFirstRefusal};
 
 use porch_lex::laws::{a_text_is_read_in_one_way, tokens_stand_in_order};
 use porch_syntax::a_text_is_one_program;
@@ -17,14 +17,14 @@ use porch_syntax::a_text_is_one_program;
 pub fn a_text_has_one_answer()
     ensures program { (text : List ℕ) (p q : Program) → IsSourceOf text p → IsSourceOf text q
         → p ≡ q }
-    ensures fault { (text : List ℕ) (r s : Refusal) → IsFirstFault text r → IsFirstFault text s
+    ensures fault { (text : List ℕ) (r s : Refusal) → IsFirstRefusal text r → IsFirstRefusal text s
         → r ≡ s }
     ensures program_or_fault { (text : List ℕ) (p : Program) (r : Refusal) → IsSourceOf text p
-        → IsFirstFault text r → ⊥ }
+        → IsFirstRefusal text r → ⊥ }
     ensures program_or_unbuilt { (text : List ℕ) (p : Program) → IsSourceOf text p
         → IsUnbuilt text → ⊥ }
     ensures unbuilt_or_fault { (text : List ℕ) (r : Refusal) → IsUnbuilt text
-        → IsFirstFault text r → ⊥ }
+        → IsFirstRefusal text r → ⊥ }
 {
     a_text_is_read_in_one_way();
     a_text_is_one_program();

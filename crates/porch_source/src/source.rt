@@ -9,7 +9,7 @@ ghost use Rattle.porch_walk.specs.Wrongs.{fault_of};
 ghost use Rattle.porch_syntax.specs.Language.{IsSource};
 ghost use Rattle.porch_syntax.specs.Tree.{Program, program_of};
 ghost use Rattle.porch_source.specs.declared.fault.SourceFault.TheVariants.{Refused, Unbuilt, NoMemory};
-ghost use Rattle.porch_source.specs.Sources.{IsAccepted, IsSourceOf, IsUnbuilt, IsFirstFault, IsFault, rule_of};
+ghost use Rattle.porch_source.specs.Sources.{IsAccepted, IsSourceOf, IsUnbuilt, IsFirstRefusal, IsFault, rule_of};
 ghost use Rattle.porch_source.specs.inside.Faults.{lex_fault};
 
 use crate::comments::without_comments;
@@ -30,7 +30,7 @@ pub fn read_program(alloc: Global, text: &[u8]) -> Result<Tree, SourceFault>
     // Whichever of the three is so of the text is what comes, want of memory apart.
     ensures only { (p : Program) → IsSourceOf text.now p
         → MatchResult result (λ tree. program_of tree ≡ p) (λ e. e ≡ NoMemory) }
-    ensures fault { (r : Refusal) → IsFirstFault text.now r
+    ensures fault { (r : Refusal) → IsFirstRefusal text.now r
         → MatchResult result (λ _. ⊥) (λ e. (e ≡ NoMemory) ⊎ (e ≡ Refused r)) }
     ensures unbuilt { IsUnbuilt text.now
         → MatchResult result (λ _. ⊥) (λ e. (e ≡ NoMemory) ⊎ (e ≡ Unbuilt)) }

@@ -8,7 +8,7 @@ use Rattle.porch_edge.specs.Streams.{Grew}
 use Rattle.porch_syntax.specs.Tree.{Program}
 use Rattle.porch_source.specs.declared.fault.SourceFault.{SourceFault}
 use Rattle.porch_source.specs.declared.fault.SourceFault.TheVariants.{Refused, Unbuilt, NoMemory}
-use Rattle.porch_source.specs.Sources.{IsFirstFault, IsUnbuilt}
+use Rattle.porch_source.specs.Sources.{IsFirstRefusal, IsUnbuilt}
 use Rattle.porch_flat.specs.declared.flat.Flat.{Flat}
 use Rattle.porch_machine.specs.ByteRun.{Ended, Trap, StackFull, Paused}
 use Rattle.porch_cli.specs.declared.reading.ReadStop.{ReadStop}
@@ -35,7 +35,7 @@ RunsText text budget out out' faults faults' (status.Done value turns) = RanText
 RunsText text budget out out' faults faults' (status.Trap a turns) = RanText text budget out out' (Trap a) turns
 RunsText text budget out out' faults faults' (status.Paused turns) = RanText text budget out out' Paused turns
 RunsText text budget out out' faults faults' (status.StackFull asked left) = (turns : ℕ) × RanText text budget out out' (StackFull asked left) turns
-RunsText text budget out out' faults faults' (status.Refused r) = IsFirstFault text r × Grew out out' []
+RunsText text budget out out' faults faults' (status.Refused r) = IsFirstRefusal text r × Grew out out' []
 RunsText text budget out out' faults faults' status.Unbuilt = IsUnbuilt text × Grew out out' []
 RunsText text budget out out' faults faults' status.WriteFault = Rose faults faults' × RanTextPartly text budget out out'
 RunsText text budget out out' faults faults' status.NoMemory = Grew out out' []
