@@ -4,3 +4,5 @@ pub mod Walks
 pub mod Known
 pub mod WordsInside
 pub mod FirstLeaf
+pub mod PlacedInOrder
+pub mod Flawless

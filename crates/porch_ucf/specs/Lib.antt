@@ -20,5 +20,7 @@ pub mod RowFlaws
 pub mod Objects
 -- what is wrong with the data, leaf by leaf
 pub mod DataFlaws
+-- the first flaw of a file, and the checkpoints that have none
+pub mod FirstFlaw
 -- what only private contracts cite
 pub mod inside

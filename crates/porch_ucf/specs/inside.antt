@@ -2,3 +2,5 @@
 pub mod Placing
 -- the first faulty leaf of one object
 pub mod Leaves
+-- what is wrong with a checkpoint behind its front
+pub mod Checked

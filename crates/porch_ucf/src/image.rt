@@ -1,6 +1,6 @@
 //! A checkpoint: its header, its frames, its heap blocks and its data.
 
-ghost use Rattle.std.specs.Prelude.{◌≡◌};
+ghost use Rattle.std.specs.Prelude.{◌≡◌, ◌<◌, ◌^◌, length};
 ghost use Rattle.porch_ucf.specs.Images.{IsImage};
 
 use crate::header::Header;
@@ -84,7 +84,11 @@ impl Image {
     pub fn header(&self) -> &Header
         ensures header { result.now ≡ self.now.header }
         ensures numbers { IsImage self.now }
+        ensures few_frames { length self.now.frames < 2 ^ 32 }
+        ensures few_blocks { length self.now.blocks < 2 ^ 32 }
     {
+        let _frames = self.header.frames;
+        let _blocks = self.header.blocks;
         &self.header
     }
 

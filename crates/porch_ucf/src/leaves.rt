@@ -48,7 +48,8 @@ pub(crate) fn check_leaves(
     requires inside { EndWithin metrics.now.types objects.now.items (length image.now.bytes) }
     ensures sound { OnOk result (IsFaultless sought metrics.now.types
         objects.now.items image.now) }
-    ensures first { IfErr result (λ fault. IsFirstFaulty sought metrics.now.types objects.now.items image.now fault) }
+    ensures first { IfErr result (λ fault. IsFirstFaulty sought metrics.now.types
+        objects.now.items image.now fault) }
 {
     for object in objects.as_slice() {
         check_object(sought, metrics, objects, image, *object)?;
@@ -101,7 +102,8 @@ fn leaf_fault(
     requires within { leaf < leaf_count metrics.now.types object }
     ensures some { IfSome result (λ fault. IsFaulty sought metrics.now.types
         objects.now.items image.now object leaf fault) }
-    ensures none { IfNone result ((fault : ImageFault) → IsFaulty sought metrics.now.types objects.now.items image.now object leaf fault → ⊥) }
+    ensures none { IfNone result ((fault : ImageFault) → IsFaulty sought metrics.now.types
+        objects.now.items image.now object leaf fault → ⊥) }
 {
     match sought {
         Sought::Words => word_fault(metrics, objects, image, object, leaf),

@@ -9,6 +9,7 @@ mod header;
 mod image;
 mod leaves;
 mod placing;
+mod read;
 mod resumable;
 mod room;
 mod rows;
@@ -22,5 +23,6 @@ pub use header::{
     put_header, read_header,
 };
 pub use image::{BlockRow, FrameRow, Image};
+pub use read::read_image;
 pub use resumable::MOST_COUNT;
 pub use write::{SEAL_BYTES, write_image};
