@@ -1,3 +1,4 @@
 pub mod OneRun
 pub mod Resolving
 pub mod Signs
+pub mod Parts

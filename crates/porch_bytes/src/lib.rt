@@ -9,6 +9,7 @@
 
 pub mod access;
 mod act;
+pub mod bytes;
 mod instruction;
 mod laws;
 pub mod leaf;
@@ -17,4 +18,4 @@ mod scope;
 pub mod shape;
 pub mod worked;
 
-pub use laws::runs_have_one_end;
+pub use laws::{other_bytes_stay, runs_have_one_end};
