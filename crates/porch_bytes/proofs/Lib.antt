@@ -2,3 +2,4 @@ pub mod OneRun
 pub mod Resolving
 pub mod Signs
 pub mod Parts
+pub mod Fine
