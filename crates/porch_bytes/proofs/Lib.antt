@@ -2,4 +2,5 @@ pub mod OneRun
 pub mod Resolving
 pub mod Signs
 pub mod Parts
-pub mod Fine
+pub mod FineFits
+pub mod Convex

@@ -10,6 +10,8 @@
 pub mod access;
 mod act;
 pub mod bytes;
+mod fine;
+mod frame;
 mod instruction;
 mod laws;
 pub mod leaf;
