@@ -1,5 +1,5 @@
 -- Which bytes of memory may be read and written.
-use Rattle.std.specs.Prelude.{ℕ, ◌+◌, ◌%◌, ◌==◌, nat_le, ℤ, pos, int_le, Bool, ◌&&◌, List, [], ◌∷◌, if◌then◌else◌, Option, Some, None}
+use Rattle.std.specs.Prelude.{ℕ, ◌+◌, ◌%◌, ◌==◌, nat_le, ℤ, pos, int_le, Bool, ◌&&◌, List, take, position, if◌then◌else◌, Option}
 use Rattle.std.specs.Option.{option_map}
 use Rattle.porch_bytes.specs.declared.access.Parts.{Parts}
 
@@ -26,5 +26,4 @@ is_address parts z = int_le (pos 0) z && int_le z (pos parts.end)
 
 -- bytes up to the first 0, where there is one
 abbrev pub text_in : List ℕ → Option (List ℕ)
-text_in [] = None
-text_in (b ∷ bs) = if b == 0 then Some [] else option_map (λ rest. b ∷ rest) (text_in bs)
+text_in bytes = option_map (λ n. take n bytes) (position (λ b. b == 0) bytes)

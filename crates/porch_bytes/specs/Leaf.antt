@@ -1,5 +1,5 @@
 -- Leaves as bytes: integers in two's complement and addresses, in a layout's byte order and sizes.
-use Rattle.std.specs.Prelude.{ℕ, zero, suc, ◌+◌, ◌*◌, ◌/◌, ◌%◌, ℤ, pos, unsigned_abs, Bool, false, List, [], ◌∷◌, ◌++◌, length, take, drop, reverse, slice_get, if◌then◌else◌, Option, Some}
+use Rattle.std.specs.Prelude.{◌≡◌, ◌≤◌, ℕ, zero, suc, ◌+◌, ◌*◌, ◌/◌, ◌%◌, ℤ, pos, unsigned_abs, Bool, false, List, [], ◌∷◌, ◌++◌, length, take, drop, reverse, slice_get, if◌then◌else◌, Option, Some}
 use Rattle.porch_types.specs.declared.shapes.Ty.{Ty}
 use Rattle.porch_types.specs.declared.shapes.Ty.TheVariants.{Whole}
 use Rattle.porch_values.specs.Integers.{is_signed, low_bits, signed_bits}
@@ -59,3 +59,21 @@ module _ (under : Layout) (types : List Ty) where
   -- memory with a number put into that leaf
   abbrev pub with_leaf_value : List ℕ → (at ty : ℕ) → ℤ → List ℕ
   with_leaf_value memory at ty z = with_number under.big (extent_of under types ty).size memory at z
+
+-- Bytes put in a place are there, and all others stay.
+pub record PartsStay (memory : List ℕ) (at : ℕ) (bytes : List ℕ) : Type 0 where
+  pub same : part (spliced memory at bytes) at (length bytes) ≡ bytes
+  pub before : (other size : ℕ) → other + size ≤ at
+      → part (spliced memory at bytes) other size ≡ part memory other size
+  pub after : (other size : ℕ) → at + length bytes ≤ other
+      → part (spliced memory at bytes) other size ≡ part memory other size
+  pub length_is : length (spliced memory at bytes) ≡ length memory
+
+abbrev pub OthersStay : Type 0
+OthersStay =
+    (memory : List ℕ) (at : ℕ) (bytes : List ℕ) → at + length bytes ≤ length memory
+    → PartsStay memory at bytes
+
+-- so many bytes encode a number
+abbrev pub NumbersHaveSizes : Type 0
+NumbersHaveSizes = (big : Bool) (size : ℕ) (z : ℤ) → length (encoded big size z) ≡ size

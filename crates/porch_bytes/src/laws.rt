@@ -2,8 +2,15 @@
 
 ghost use Rattle.std.specs.Prelude.{ℕ};
 ghost use Rattle.porch_flat.specs.declared.whole.Flat.{Flat};
+ghost use Rattle.porch_bytes.specs.Leaf.{OthersStay, NumbersHaveSizes};
 ghost use Rattle.porch_bytes.specs.State.{Setting};
 ghost use Rattle.porch_bytes.specs.ByteRun.{IsOneRun};
+
+/// Bytes that are written are read back, and all others stay as they are.
+pub fn other_bytes_stay()
+    ensures parts { OthersStay }
+    ensures sizes { NumbersHaveSizes }
+{}
 
 /// A run has one end.
 pub fn runs_have_one_end()

@@ -9,6 +9,9 @@
 
 pub mod access;
 mod act;
+pub mod bytes;
+mod fine;
+mod frame;
 mod instruction;
 mod laws;
 pub mod leaf;
@@ -17,4 +20,4 @@ mod scope;
 pub mod shape;
 pub mod worked;
 
-pub use laws::runs_have_one_end;
+pub use laws::{other_bytes_stay, runs_have_one_end};
