@@ -228,22 +228,27 @@ fn fault_place(alloc: Global, text: &[u8]) -> Result<Option<(GrammarFault, usize
     }
 }
 
+fn expect_row(
+    rt: &impl Abort,
+    alloc: Global,
+    row: &Row,
+    times: usize,
+    fault: Option<(GrammarFault, usize)>,
+) -> Result<(), Fail> {
+    let text = text_of(alloc, row, times)?;
+    let found = fault_place(alloc, text.as_bytes())?;
+    assert_eq!(rt; found, fault, "{times} times {}", row.opening);
+    Ok(())
+}
+
 #[test]
 fn two_hundred_uses_may_lie_in_one_another(rt: HostRuntime) -> Result<(), Fail> {
+    let alloc = rt.alloc();
     for row in &ROWS {
-        for times in [row.most - 1, row.most] {
-            let text = text_of(rt.alloc(), row, times)?;
-            let found = fault_place(rt.alloc(), text.as_bytes())?;
-            assert_eq!(rt; found, None, "{times} times {}", row.opening);
-        }
-        let text = text_of(rt.alloc(), row, row.most + 1)?;
-        let found = fault_place(rt.alloc(), text.as_bytes())?;
-        assert_eq!(rt;
-            found,
-            Some((GrammarFault::Nesting, row.at)),
-            "{}",
-            row.opening
-        );
+        expect_row(&rt, alloc, row, row.most.saturating_sub(1), None)?;
+        expect_row(&rt, alloc, row, row.most, None)?;
+        let fault = Some((GrammarFault::Nesting, row.at));
+        expect_row(&rt, alloc, row, row.most.saturating_add(1), fault)?;
     }
     Ok(())
 }
