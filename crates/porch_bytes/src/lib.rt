@@ -24,4 +24,4 @@ mod scope;
 pub mod shape;
 pub mod worked;
 
-pub use laws::{other_bytes_stay, runs_have_one_end};
+pub use laws::{numbers_are_read_back, other_bytes_stay, runs_have_one_end};
