@@ -4,3 +4,4 @@ pub mod Signs
 pub mod Parts
 pub mod FineFits
 pub mod Convex
+pub mod ReadBack

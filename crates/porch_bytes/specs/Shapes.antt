@@ -1,5 +1,5 @@
 -- The size of a leaf's number, and whether it may be negative: all that its bytes depend on.
-use Rattle.std.specs.Prelude.{◌-◌, ◌^◌, ◌&&◌, pos, neg_ℤ, int_le, ℕ, ◌==◌, Bool, true, false, List, ℤ, if◌then◌else◌, Option, Some}
+use Rattle.std.specs.Prelude.{◌≡◌, ◌≤◌, ◌+◌, length, IsTrue, ◌-◌, ◌^◌, ◌&&◌, pos, neg_ℤ, int_le, ℕ, ◌==◌, Bool, true, false, List, ℤ, if◌then◌else◌, Option, Some}
 use Rattle.porch_types.specs.declared.shapes.Kind.{Kind}
 use Rattle.porch_types.specs.declared.shapes.Kind.TheVariants as kind
 use Rattle.porch_types.specs.declared.shapes.Ty.{Ty}
@@ -78,3 +78,10 @@ greatest_in U64 = pos (2 ^ 64 - 1)
 
 abbrev pub is_in_shape : Shape → ℤ → Bool
 is_in_shape shape z = int_le (least_in shape) z && int_le z (greatest_in shape)
+
+-- a number of a shape that is written is read back
+abbrev pub NumbersAreReadBack : Type 0
+NumbersAreReadBack =
+    (big : Bool) (shape : Shape) (memory : List ℕ) (at : ℕ) (z : ℤ) → at + size_in shape ≤ length memory
+    → IsTrue (is_in_shape shape z)
+    → number_in big shape (with_number_in big shape memory at z) at ≡ z

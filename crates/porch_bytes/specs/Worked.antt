@@ -126,6 +126,9 @@ shared_end_kept = record {
 pub record LayoutsDiffer : Type 0 where
   pub far_in_64_bits : run_under le64 far_steps ≡ traps act.Address
   pub far_in_32_bits : run_under be32 far_steps ≡ traps act.Overflow
+  -- a long shifted by 32
+  pub shifted_in_64_bits : run_under be64 (with_structs (command.Shl 7 (Constant (pos 1)) (Constant (pos 32)) ∷ command.Return (Some (Constant (pos 0))) ∷ [])) ≡ gives (pos 0)
+  pub shifted_in_32_bits : run_under be32 (with_structs (command.Shl 7 (Constant (pos 1)) (Constant (pos 32)) ∷ command.Return (Some (Constant (pos 0))) ∷ [])) ≡ traps act.Shift
   -- padding stands between the structs where long is aligned to 8
   pub apart : run_under le64 shared_end_kept ≡ gives (pos 0)
   pub together : run_under be32 shared_end_kept ≡ Some (byte_run (Ended (pos 0)) 1 (121 ∷ []))

@@ -3,6 +3,7 @@
 ghost use Rattle.std.specs.Prelude.{ℕ};
 ghost use Rattle.porch_flat.specs.declared.whole.Flat.{Flat};
 ghost use Rattle.porch_bytes.specs.Leaf.{OthersStay, NumbersHaveSizes};
+ghost use Rattle.porch_bytes.specs.Shapes.{NumbersAreReadBack};
 ghost use Rattle.porch_bytes.specs.State.{Setting};
 ghost use Rattle.porch_bytes.specs.ByteRun.{IsOneRun};
 
@@ -10,6 +11,11 @@ ghost use Rattle.porch_bytes.specs.ByteRun.{IsOneRun};
 pub fn other_bytes_stay()
     ensures parts { OthersStay }
     ensures sizes { NumbersHaveSizes }
+{}
+
+/// A number of a leaf that is written is read back, in either order.
+pub fn numbers_are_read_back()
+    ensures back { NumbersAreReadBack }
 {}
 
 /// A run has one end.
