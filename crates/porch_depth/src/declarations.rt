@@ -91,7 +91,8 @@ pub(crate) fn take_declarator(
     word: Word,
 ) -> Result<Option<Taken>, AllocError>
     requires { uses ≤ 1 }
-    ensures { IfOk result (λ t. TookBy here (ahead (declarator word naming uses) (reverse later.now)) t
+    ensures { IfOk result
+        (λ t. TookBy here (ahead (declarator word naming uses) (reverse later.now)) t
         levels.old.items levels.new.items) }
 {
     if is_word(word, Word::Mark(Mark::Star)) {
@@ -182,7 +183,8 @@ pub(crate) fn take_behind_void(
     here: Here,
     word: Word,
 ) -> Result<Option<Taken>, AllocError>
-    ensures { IfOk result (λ t. TookBy here (behind_void word) t levels.old.items levels.new.items) }
+    ensures { IfOk result
+        (λ t. TookBy here (behind_void word) t levels.old.items levels.new.items) }
 {
     if is_word(word, Word::Mark(Mark::CloseParenthesis)) {
         take(levels, here, 0, &[])
@@ -232,7 +234,8 @@ pub(crate) fn take_more_entries(
     here: Here,
     word: Word,
 ) -> Result<Option<Taken>, AllocError>
-    ensures { IfOk result (λ t. TookBy here (more_entries word) t levels.old.items levels.new.items) }
+    ensures { IfOk result
+        (λ t. TookBy here (more_entries word) t levels.old.items levels.new.items) }
 {
     if is_word(word, Word::Mark(Mark::Comma)) {
         take(levels, here, 0, &[Step::Up(0), Step::Up(1)])

@@ -182,7 +182,8 @@ fn take_nested(
     mode: Mode,
     word: Word,
 ) -> Result<Option<Taken>, AllocError>
-    ensures { IfOk result (λ t. TookBy here (nested word mode) t levels.old.items levels.new.items) }
+    ensures { IfOk result
+        (λ t. TookBy here (nested word mode) t levels.old.items levels.new.items) }
 {
     put_rest_kept(levels, here, mode)?;
     take_operand(

@@ -86,7 +86,8 @@ pub(crate) fn take_before(
     uses: u32,
     steps: &[Step],
 ) -> Result<Option<Taken>, AllocError>
-    ensures { IfOk result (λ t. TookBy here (ahead (took uses (reverse steps.now)) (reverse later.now)) t
+    ensures { IfOk result
+        (λ t. TookBy here (ahead (took uses (reverse steps.now)) (reverse later.now)) t
         levels.old.items levels.new.items) }
 {
     put(levels, here, later)?;

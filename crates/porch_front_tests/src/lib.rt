@@ -4,6 +4,8 @@
 #![tactic(auto)]
 
 #[cfg(test)]
+mod depth;
+#[cfg(test)]
 mod expressions;
 #[cfg(test)]
 mod tokens;
