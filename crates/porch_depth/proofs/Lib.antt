@@ -2,3 +2,4 @@ pub mod Takes
 pub mod Readings
 pub mod Sweeps
 pub mod Faults
+pub mod Before

@@ -4,6 +4,8 @@ pub mod Plans
 pub mod Levels
 -- small texts, and texts with many parentheses
 pub mod Worked
+-- what an answer says, beside how deep tokens lie
+pub mod Told
 -- what the code answers
 pub mod Faults
 -- what the code does

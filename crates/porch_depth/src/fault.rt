@@ -4,6 +4,7 @@ ghost use Rattle.std.specs.Prelude.{◌≡◌, IfOk, take};
 ghost use Rattle.porch_lex.specs.Words.{spelled};
 ghost use Rattle.porch_depth.specs.Levels.{first_deep, first_fault, reach_of};
 ghost use Rattle.porch_depth.specs.Faults.{found_of};
+ghost use Rattle.porch_depth.specs.Told.{IsFound};
 ghost use Rattle.porch_depth.specs.inside.Reads.{front_of};
 ghost use Rattle.porch_walk.specs.Wrongs.{wrong_of};
 
@@ -42,6 +43,10 @@ pub fn first_fault(
 ) -> Result<Option<FaultyToken>, AllocError>
     ensures exact { IfOk result
         (λ found. found_of found ≡ first_fault (spelled text.now tokens.now)) }
+
+    // For Syntax and Outside this is the grammar's first fault, before which what is named for Nesting stands.
+    ensures told { IfOk result
+        (λ found. IsFound (spelled text.now tokens.now) (found_of found)) }
 {
     let wrong = first_wrong(alloc, text, tokens)?;
     match deep_token(alloc, text, read_part(tokens, wrong))? {
