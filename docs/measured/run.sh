@@ -1,6 +1,6 @@
 #!/usr/bin/env bash
 # Proves and builds a measuring program in a copy of the crates that it stands on, and runs it. usage: [WITH=..] run.sh NAME WORD..
-# NAME is heap_times, value_times, type_times, flat_times, rewrite_times or lex_times; WITH is put before the run, as a profiler's
+# NAME is heap_times, value_times, type_times, flat_times, rewrite_times, lex_times or depth_times; WITH is put before the run, as a profiler's
 # call. Files among the words have whole paths. NAME.txt is the program.
 set -eu
 top=$(cd "$(dirname "$0")/../.." && pwd)
@@ -15,6 +15,7 @@ case $name in
     flat_times) base=$flat kit=sqlite_items ;;
     rewrite_times) base="$flat porch_objects porch_abstract porch_rewrite" kit=sqlite_items ;;
     lex_times) base='porch_tree porch_lex' ;;
+    depth_times) base='porch_tree porch_lex porch_walk porch_depth' kit='sqlite_items indexmap thiserror' ;;
     *) base='porch_types porch_values porch_layout porch_metrics porch_heap' first=none ;;
 esac
 mkdir -p "$copy/crates/$name/src"
