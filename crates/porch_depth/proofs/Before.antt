@@ -1,8 +1,8 @@
 -- A token that lies too deep is one of those that were read.
-use Rattle.std.proofs.Common.{◌≡◌, ◌<◌, ◌≤◌, ◌+◌, ℕ, zero, suc, Bool, true, false, nat_lt, if◌then◌else◌, List, [], ◌∷◌, length, take, Option, Some, None, refl, sym, subst, ap, ◌∙◌, arith}
+use Rattle.std.proofs.Common.{◌≡◌, ◌<◌, ◌≤◌, ◌+◌, ℕ, zero, suc, Bool, true, false, nat_lt, if◌then◌else◌, List, [], ◌∷◌, length, take, Option, Some, None, refl, sym, subst, ap, arith}
 use Rattle.porch_tree.specs.Pieces.{Spelled}
 use Rattle.porch_tree.specs.Grammar.{MOST_USES, Fault, syntax_fault, nesting, outside, IsReach, Halts, at_outside, at_stop, at_unit}
-use Rattle.porch_walk.specs.Walk.{Stage, step, start, Wrong, wrong, wrong_at}
+use Rattle.porch_walk.specs.Walk.{Stage, step, start, Wrong, wrong}
 use Rattle.porch_walk.specs.Walks.{knows}
 use Rattle.porch_walk.specs.Reach.{IsReachOf}
 use Rattle.porch_depth.specs.declared.level.Level.{Level}

@@ -3,3 +3,4 @@ pub mod Readings
 pub mod Sweeps
 pub mod Faults
 pub mod Before
+pub mod Rising

@@ -1,6 +1,6 @@
 -- How many counted uses of the grammar each token of a text lies in, as far as the tokens up to some place
 -- show it. A walk along the tokens keeps, for each part that may still come, in how many uses it lies.
-use Rattle.std.specs.Prelude.{ℕ, suc, ◌+◌, ◌-◌, Bool, nat_lt, if◌then◌else◌, List, [], ◌∷◌, ◌++◌, map, length, take, Option, Some, None}
+use Rattle.std.specs.Prelude.{ℕ, suc, ◌≤◌, ◌+◌, ◌-◌, ⊤, Bool, nat_lt, if◌then◌else◌, List, [], ◌∷◌, ◌++◌, map, length, take, Option, Some, None}
 use Rattle.porch_tree.specs.declared.word.Word.{Word}
 use Rattle.porch_tree.specs.Pieces.{Spelled}
 use Rattle.porch_tree.specs.Grammar.{MOST_USES, nesting}
@@ -100,3 +100,9 @@ nesting_or (Some i) found = wrong_at i nesting
 -- The first token that lies too deep before the place where something else is wrong, or what is wrong there.
 abbrev pub first_fault : List Spelled → Option Wrong
 first_fault ts = nesting_or (first_deep (take (reach_of ts (wrong 0 start ts)) ts)) (wrong 0 start ts)
+
+-- as many numbers or more, each of the first ones at least as large
+abbrev pub AreAtLeast : List ℕ → List ℕ → Type 0
+AreAtLeast ms [] = ⊤
+AreAtLeast [] (n ∷ ns) = ⊥
+AreAtLeast (m ∷ ms) (n ∷ ns) = (n ≤ m) × AreAtLeast ms ns
