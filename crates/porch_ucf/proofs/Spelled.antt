@@ -1,24 +1,21 @@
 -- A file without a flaw in its front begins with the file of what it holds.
-use Rattle.std.proofs.Common.{Bool, true, false, Option, Some, None, if◌then◌else◌, ◌==◌, nat_le, ◌≡◌, ℕ, zero, suc, ◌+◌, ◌-◌, ◌*◌, ◌<◌, ◌≤◌, List, [], ◌∷◌, ◌++◌, map, length, take, drop, get_or, codes, refl, ap, sym, ◌∙◌, subst, arith, length-take, length-drop, append_assoc}
-use Rattle.std.specs.Int.{w32, w64, from_be_bytes, to_be_bytes}
+use Rattle.std.proofs.Common.{Bool, true, false, Option, Some, None, ◌==◌, ◌≡◌, ℕ, zero, suc, ◌+◌, ◌-◌, ◌*◌, ◌<◌, ◌≤◌, List, [], ◌∷◌, ◌++◌, map, length, take, drop, get_or, codes, refl, ap, sym, ◌∙◌, subst, arith, length-take, length-drop}
+use Rattle.std.specs.Int.{w32, w64, from_be_bytes}
 use Rattle.std.specs.List.{flat_map, range_with_len}
 use Rattle.std.proofs.lemmas.Grind.{common_steps}
 use Rattle.std.proofs.Math.Seq.{take-add}
 use Rattle.std.proofs.lemmas.List.{drop-drop}
-use Rattle.std.specs.Str.{bytes_eq}
 use Rattle.std.proofs.lemmas.Bool.{eqb-true, leb-true}
 use Rattle.std.proofs.lemmas.Option.{none-some}
 use Rattle.std.proofs.lemmas.Slice.Eq.{bytes_eq-Decides}
 use Rattle.std.proofs.lemmas.Nat.{be_bytes_4, be_bytes_8}
 use Rattle.byteorder.specs.Endian.{big_bytes, big_number}
-use Rattle.porch_ucf.specs.declared.image.FrameRow.{FrameRow}
-use Rattle.porch_ucf.specs.declared.image.BlockRow.{BlockRow}
 use Rattle.sha2.specs.Sha256.{sha256}
 use Rattle.porch_flat_line.specs.Text.{Text}
 use Rattle.porch_ucf.specs.declared.fault.ImageFault.{ImageFault}
 use Rattle.porch_ucf.specs.Fields.{u32_in, u64_in}
-use Rattle.porch_ucf.specs.Files.{frame_bytes, block_bytes, rows_bytes, unsealed, sealed, file_of}
-use Rattle.porch_ucf.specs.FrontFlaws.{front_flaw, length_flaw, digest_flaw, program_flaw, rows_flaw}
+use Rattle.porch_ucf.specs.Files.{frame_bytes, block_bytes, rows_bytes, unsealed, sealed}
+use Rattle.porch_ucf.specs.FrontFlaws.{length_flaw, digest_flaw, program_flaw, rows_flaw}
 use Rattle.porch_ucf.specs.HeaderFlaws.{first_of, unless, header_flaw, magic_flaw, version_flaw, reserved_flaw, counts_flaw}
 use Rattle.porch_ucf.specs.Headers.{header_of, header_bytes, gate_and_name}
 use Rattle.porch_ucf.specs.Images.{rows_size}
