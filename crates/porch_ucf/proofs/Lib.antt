@@ -6,3 +6,4 @@ pub mod WordsInside
 pub mod FirstLeaf
 pub mod PlacedInOrder
 pub mod Flawless
+pub mod Spelled

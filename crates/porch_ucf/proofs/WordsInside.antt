@@ -1,7 +1,6 @@
 -- The eight bytes of a pointer or a long lie inside their object.
-use Rattle.std.proofs.Common.{◌≡◌, ℕ, ◌+◌, ◌*◌, ◌<◌, ◌≤◌, List, length, slice_get, Some, ap, ◌∙◌, arith}
-use Rattle.porch_types.specs.declared.shapes.Ty.{Ty}
-use Rattle.porch_types.specs.Leaves.{IsTypes, leaves_of}
+use Rattle.std.proofs.Common.{◌≡◌, ℕ, ◌+◌, ◌*◌, ◌<◌, ◌≤◌, ap, ◌∙◌, arith}
+use Rattle.porch_types.specs.Leaves.{leaves_of}
 use Rattle.porch_types.specs.LeafTypes.{leaf_type}
 use Rattle.porch_layout.specs.Layouts.{IsLayout}
 use Rattle.porch_metrics.specs.AddingUp.{ExtentsAddUp}

@@ -1,7 +1,7 @@
 -- What is wrong with the data of a checkpoint, leaf by leaf.
 use Rattle.std.specs.Prelude.{◌≡◌, ℕ, ◌+◌, ◌*◌, ◌<◌, ◌≤◌, ◌⊎◌, ℤ, pos, Bool, true, false, List, length, slice_get, Option, Some, if◌then◌else◌}
 use Rattle.porch_types.specs.declared.shapes.Kind.{Kind}
-use Rattle.porch_types.specs.declared.shapes.Kind.TheVariants.{Char, UChar, Short, UShort, Int, UInt, Long, ULong}
+use Rattle.porch_types.specs.declared.shapes.Kind.TheVariants.{Long, ULong}
 use Rattle.porch_types.specs.declared.shapes.Ty.{Ty}
 use Rattle.porch_types.specs.declared.shapes.Ty.TheVariants.{Whole, Pointer}
 use Rattle.porch_types.specs.Leaves.{leaves_of}

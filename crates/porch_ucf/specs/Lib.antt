@@ -22,5 +22,7 @@ pub mod Objects
 pub mod DataFlaws
 -- the first flaw of a file, and the checkpoints that have none
 pub mod FirstFlaw
+-- a file without a flaw is the file of what it holds
+pub mod Laws
 -- what only private contracts cite
 pub mod inside

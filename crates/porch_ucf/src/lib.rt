@@ -7,6 +7,7 @@ mod field;
 mod front;
 mod header;
 mod image;
+mod laws;
 mod leaves;
 mod placing;
 mod read;
@@ -23,6 +24,7 @@ pub use header::{
     put_header, read_header,
 };
 pub use image::{BlockRow, FrameRow, Image};
+pub use laws::files_are_spelled;
 pub use read::read_image;
 pub use resumable::MOST_COUNT;
 pub use write::{SEAL_BYTES, write_image};

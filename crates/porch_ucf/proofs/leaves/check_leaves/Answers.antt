@@ -1,4 +1,4 @@
-use Rattle.std.proofs.Common.{rules, ◌≡◌, ◌<◌, List, length, get_or, sym, ap, subst, arith}
+use Rattle.std.proofs.Common.{rules, ◌<◌, List, length, get_or, ap, subst, arith}
 use Rattle.porch_find.specs.declared.roots.Root.{Root}
 use Rattle.porch_ucf.specs.DataFlaws.{leaf_count}
 use Rattle.porch_ucf.specs.inside.Leaves.{IsFirstOf, IsSoundBelow}

@@ -1,9 +1,8 @@
-use Rattle.std.proofs.Common.{◌≡◌, ◌+◌, ◌≤◌, ℕ, Bool, true, false, Option, Some, None, OnSome, if◌then◌else◌, refl, ap, sym, ◌∙◌, subst, arith}
+use Rattle.std.proofs.Common.{◌≡◌, ◌+◌, ◌≤◌, Bool, true, false, Option, Some, None, OnSome, if◌then◌else◌, refl, sym, subst, arith}
 use Rattle.porch_types.specs.declared.shapes.Kind.{Kind}
 use Rattle.porch_types.specs.declared.shapes.Kind.TheVariants.{Char, UChar, Short, UShort, Int, UInt, Long, ULong}
-use Rattle.porch_types.specs.declared.shapes.Ty.{Ty}
 use Rattle.porch_types.specs.declared.shapes.Ty.TheVariants.{Whole}
-use Rattle.porch_metrics.specs.Extents.{extent_of, kind_extent, ucf_layout}
+use Rattle.porch_metrics.specs.Extents.{kind_extent, ucf_layout}
 use Rattle.porch_points.specs.Plans.{end_of}
 use Rattle.porch_ucf.specs.DataFlaws.{type_of_leaf, leaf_place, is_long}
 use Rattle.porch_ucf.proofs.leaves.long_of_leaf.Goals as goal

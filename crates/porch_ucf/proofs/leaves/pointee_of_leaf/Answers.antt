@@ -1,5 +1,4 @@
-use Rattle.std.proofs.Common.{◌≡◌, Some, refl, ap, sym, ◌∙◌, arith}
-use Rattle.porch_types.specs.declared.shapes.Ty.{Ty}
+use Rattle.std.proofs.Common.{◌≡◌, Some, refl, arith}
 use Rattle.porch_types.specs.declared.shapes.Ty.TheVariants.{Pointer}
 use Rattle.porch_ucf.specs.DataFlaws.{type_of_leaf}
 use Rattle.porch_ucf.proofs.leaves.pointee_of_leaf.Goals as goal

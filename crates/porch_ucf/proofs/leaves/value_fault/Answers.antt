@@ -1,7 +1,7 @@
-use Rattle.std.proofs.Common.{rules, ◌≡◌, ◌*◌, false, refl, ap, sym, ◌∙◌, subst, arith}
+use Rattle.std.proofs.Common.{rules, ◌≡◌, ◌*◌, false, ap, ◌∙◌, subst}
 use Rattle.porch_values.specs.Integers.{in_range}
 use Rattle.porch_ucf.specs.declared.fault.ImageFault.TheVariants.{TooNarrow}
-use Rattle.porch_ucf.specs.DataFlaws.{long_value, word_of_leaf, file_place}
+use Rattle.porch_ucf.specs.DataFlaws.{long_value, word_of_leaf}
 use Rattle.porch_ucf.proofs.leaves.value_fault.Goals as goal
 
 pub returns-else-is_in_range-clause-some : goal.returns-else-is_in_range-clause-some

@@ -1,4 +1,4 @@
-use Rattle.std.proofs.Common.{◌≡◌, ◌<◌, ◌≤◌, ◌==◌, ◌⊎◌, inl, inr, Bool, true, false, List, length, All, Some, None, Result, Ok, Err, OnOk, IfErr, if◌then◌else◌, refl, sym, ap, ◌∙◌, subst, arith}
+use Rattle.std.proofs.Common.{◌≡◌, inl, inr, Bool, true, false, List, length, Some, None, Result, Ok, Err, OnOk, if◌then◌else◌, refl, sym, ◌∙◌, subst}
 use Rattle.std.proofs.lemmas.Bool.{eqb-true}
 use Rattle.std.proofs.lemmas.Result.{MatchResult-weaker}
 use Rattle.porch_types.specs.declared.shapes.Ty.{Ty}
@@ -9,10 +9,9 @@ use Rattle.porch_ucf.specs.declared.fault.ImageFault.{ImageFault}
 use Rattle.porch_ucf.specs.declared.leaves.Sought.{Sought}
 use Rattle.porch_ucf.specs.declared.leaves.Sought.TheVariants as sought
 use Rattle.porch_ucf.specs.DataFlaws.{IsFaultless, IsFirstFaulty}
-use Rattle.porch_ucf.specs.FirstFlaw.{roots_of}
 use Rattle.porch_ucf.specs.Images.{Checkpoint}
-use Rattle.porch_ucf.specs.Objects.{objects_of, placed, size_flaw}
-use Rattle.porch_ucf.specs.inside.Checked.{IsDataFlaw, in_data_words, in_data_values, IsDataSound, data_size_flaw}
+use Rattle.porch_ucf.specs.Objects.{objects_of, placed}
+use Rattle.porch_ucf.specs.inside.Checked.{in_data_words, in_data_values, data_size_flaw}
 use Rattle.porch_ucf.specs.inside.Leaves.{ArePlaced, ArePointees, EndWithin}
 use Rattle.porch_ucf.proofs.Known.{objects_known_in, pointees_known}
 use Rattle.porch_ucf.proofs.PlacedInOrder.{are_placed, end_within}

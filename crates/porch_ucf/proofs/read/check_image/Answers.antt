@@ -1,8 +1,7 @@
-use Rattle.std.proofs.Common.{◌≡◌, ◌<◌, ℕ, List, length, All, None, OnOk, ap, sym, ◌∙◌, subst, arith}
+use Rattle.std.proofs.Common.{◌≡◌, length, None, ap, ◌∙◌, subst}
 use Rattle.std.proofs.lemmas.Result.{IfOk-weaker, MatchResult-weaker}
 use Rattle.porch_metrics.specs.Places.{Measures}
 use Rattle.porch_ucf.specs.declared.header.Header.{Header}
-use Rattle.porch_ucf.specs.declared.image.BlockRow.{BlockRow}
 use Rattle.porch_ucf.specs.RowFlaws.{frame_flaw, block_flaw}
 use Rattle.porch_ucf.specs.inside.Checked.{IsDataFlaw, IsDataSound}
 use Rattle.porch_ucf.proofs.Flawless.{blocks_known, whole_flaw, whole_sound}

@@ -1,7 +1,7 @@
 use Rattle.std.proofs.Common.{◌≡◌, ◌⊎◌, inl, inr, ℕ, List, None, subst}
 use Rattle.porch_ucf.specs.declared.fault.ImageFault.{ImageFault}
 use Rattle.porch_ucf.specs.declared.fault.ImageFault.TheVariants.{NoMemory}
-use Rattle.porch_ucf.specs.FirstFlaw.{IsFirstFlaw, of_body, of_words, of_values, IsFlawless}
+use Rattle.porch_ucf.specs.FirstFlaw.{IsFirstFlaw, of_body, of_words, of_values}
 use Rattle.porch_ucf.specs.FrontFlaws.{front_flaw}
 use Rattle.porch_ucf.specs.Reading.{image_of}
 use Rattle.porch_ucf.specs.Images.{Checkpoint}
