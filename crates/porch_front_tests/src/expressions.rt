@@ -1,15 +1,22 @@
 //! Worked expressions: what they are as trees.
 
+use indexmap::IndexSet;
 use porch_lex::lex;
-use porch_parse::expression;
+use porch_parts::expression;
 use porch_tree::{Expr, Level};
 use std::alloc::Global;
 use std::process::Abort;
 use std::test::Fail;
 
+/// The expression that a text is, `T` being a typedef name.
 fn expression_in(alloc: Global, text: &[u8]) -> Option<Expr> {
+    let mut types = IndexSet::new(alloc);
+    let name: &[u8] = b"T";
+    if types.insert(name).is_err() {
+        return None;
+    }
     match lex(alloc, text) {
-        Ok(tokens) => match expression(alloc, tokens.as_slice()) {
+        Ok(tokens) => match expression(alloc, text, &types, tokens.as_slice()) {
             Ok(found) => found,
             Err(_) => None,
         },
@@ -81,9 +88,59 @@ fn suffixes_stand_behind_one_operand(rt: HostRuntime) {
     }
 }
 
+/// Texts that begin with a type in parentheses.
+static CASTS: [&str; 5] = [
+    "(T)x",
+    "(const T*[2])(x)",
+    "(struct{int a,(*f)(void);enum e{A,B=1}b;}const)x",
+    "(unsigned const char)(T)x",
+    "(struct s)x",
+];
+
+/// Texts that are the size of a type.
+static SIZES: [&str; 4] = [
+    "sizeof(T)",
+    "sizeof(struct s*[sizeof(int)])",
+    "sizeof(enum{A=(T)1}*const*)",
+    "sizeof(void)",
+];
+
+/// Texts that begin with an expression in parentheses, or with its size.
+static NESTED: [&str; 4] = ["(x)", "(U)", "((T)x)", "(*x)"];
+
+#[test]
+fn a_type_in_parentheses_is_told_from_an_expression(rt: HostRuntime) {
+    for text in &CASTS {
+        let found = expression_in(rt.alloc(), text.as_bytes());
+        assert!(rt; matches!(found, Some(Expr::Cast { .. })), "{text}");
+    }
+    for text in &SIZES {
+        let found = expression_in(rt.alloc(), text.as_bytes());
+        assert!(rt; matches!(found, Some(Expr::SizeOf { .. })), "{text}");
+    }
+    for text in &NESTED {
+        let found = expression_in(rt.alloc(), text.as_bytes());
+        assert!(rt; matches!(found, Some(Expr::Nested { .. })), "{text}");
+    }
+}
+
+static NO_EXPRESSIONS: [&str; 11] = [
+    "",
+    "a +",
+    "a b",
+    "(a",
+    "a)",
+    "a ? b",
+    "a[1",
+    "f(a,)",
+    "(T)",
+    "(int x)",
+    "sizeof(int",
+];
+
 #[test]
 fn what_is_no_expression_has_no_tree(rt: HostRuntime) {
-    for text in ["", "a +", "a b", "(a", "a)", "a ? b", "a[1", "f(a,)"] {
+    for text in &NO_EXPRESSIONS {
         assert!(rt;
             expression_in(rt.alloc(), text.as_bytes()).is_none(),
             "{text}"

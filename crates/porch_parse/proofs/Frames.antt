@@ -3,8 +3,8 @@ use Rattle.std.proofs.Common.{◌≡◌, ℕ, true, false, List, [], ◌∷◌, 
 use Rattle.std.proofs.lemmas.List.Sums.{fold-append}
 use Rattle.porch_tree.specs.Mirror.{Expr}
 use Rattle.porch_parse.specs.declared.frame.Frame as code_frame
-use Rattle.porch_parse.specs.inside.Building.{Frame, closed, built}
-use Rattle.porch_parse.specs.inside.Shown.{frame_of, frames_of, closes, ended}
+use Rattle.porch_parse.specs.Building.{Frame, closed, built}
+use Rattle.porch_parse.specs.Shown.{frame_of, frames_of, closes, ended}
 
 pub on_top : (text : List ℕ) (fs : List code_frame.Frame) (f : code_frame.Frame) → frames_of text (fs ++ f ∷ []) ≡ frame_of text f ∷ frames_of text fs
 on_top text fs f = fold-append (λ above f. frame_of text f ∷ above) [] fs (f ∷ [])

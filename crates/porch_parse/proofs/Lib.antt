@@ -1,4 +1,1 @@
-pub mod Levels
-pub mod Lists
-pub mod Built
 pub mod Frames

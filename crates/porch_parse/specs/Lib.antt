@@ -1,4 +1,6 @@
--- which expressions have no type in them
-pub mod Typeless
--- what only private contracts cite
-pub mod inside
+-- what words are in an expression
+pub mod Parts
+-- the builder
+pub mod Building
+-- what the code's frames are as plain data
+pub mod Shown

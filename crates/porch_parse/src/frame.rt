@@ -2,11 +2,11 @@
 
 ghost use Rattle.std.specs.Prelude.{ℕ, ◌≡◌, ◌<◌, List, length, map, IsTrue, IfOk};
 ghost use Rattle.porch_tree.specs.Words.{infix_level};
-ghost use Rattle.porch_tree.specs.Views.{expr_of};
-ghost use Rattle.porch_parse.specs.inside.Building.{behind_prefix, behind_infix, behind_colon, behind_assigning, behind_comma, built, closed, level_number, frame_number};
-ghost use Rattle.porch_parse.specs.inside.Shown.{frame_of, frames_of, infixed_of, closes, ended};
+ghost use Rattle.porch_tree.specs.Views.{expr_of, type_name_of};
+ghost use Rattle.porch_parse.specs.Building.{behind_prefix, behind_infix, behind_colon, behind_assigning, behind_comma, behind_cast, built, closed, level_number, frame_number};
+ghost use Rattle.porch_parse.specs.Shown.{frame_of, frames_of, infixed_of, closes, ended};
 
-use porch_tree::{Assigning, Expr, Infix, Level, Prefix, Suffix};
+use porch_tree::{Assigning, Expr, Infix, Level, Prefix, Suffix, TypeName};
 use sqlite_items::{Boxed, Items};
 use std::alloc::{AllocError, Global};
 
@@ -24,14 +24,14 @@ const PREFIX: u32 = 14;
 
 /// An operand with the suffixes that have been read.
 #[derive(Drop)]
-pub(crate) struct Operand {
-    pub(crate) core: Expr,
-    pub(crate) suffixes: Items<Suffix>,
+pub struct Operand {
+    pub core: Expr,
+    pub suffixes: Items<Suffix>,
 }
 
 /// A part of an expression that is still to be ended.
 #[derive(Drop)]
-pub(crate) enum Frame {
+pub enum Frame {
     /// An operator in front of its operand.
     Prefix {
         at: u32,
@@ -73,6 +73,21 @@ pub(crate) enum Frame {
         operand: Operand,
         more: Items<Expr>,
     },
+    /// `( type )` in front of its operand.
+    Cast {
+        at: u32,
+        name: Boxed<TypeName>,
+    },
+    /// `(` of a cast.
+    InCast {
+        at: u32,
+    },
+    /// `sizeof (`
+    InSize {
+        at: u32,
+    },
+    /// An expression without commas, in a part that is no expression.
+    Alone,
 }
 
 fn level_of(operator: Infix) -> Level
@@ -183,6 +198,17 @@ fn sequence(first: Boxed<Expr>, mut more: Items<Expr>, last: Expr) -> Result<Exp
     Ok(Expr::Sequence { first, more })
 }
 
+fn cast(alloc: Global, at: u32, name: Boxed<TypeName>, operand: Expr) -> Result<Expr, AllocError>
+    ensures { IfOk result (λ e. (text : List ℕ) →
+        expr_of text e ≡ built (behind_cast at (type_name_of text name)) (expr_of text operand)) }
+{
+    Ok(Expr::Cast {
+        at,
+        name,
+        operand: Boxed::new(alloc, operand)?,
+    })
+}
+
 /// What a frame and the operand behind it are.
 fn build(alloc: Global, frame: Frame, operand: Expr) -> Result<Expr, AllocError>
     ensures { IfOk result (λ e. (text : List ℕ) →
@@ -198,6 +224,7 @@ fn build(alloc: Global, frame: Frame, operand: Expr) -> Result<Expr, AllocError>
         Frame::Colon { condition, chosen } => conditional(alloc, condition, chosen, operand),
         Frame::Assigning { assigning, place } => assign(alloc, assigning, place, operand),
         Frame::Comma { first, more } => sequence(first, more, operand),
+        Frame::Cast { at, name } => cast(alloc, at, name, operand),
         Frame::Parentheses { at: _ } => Ok(operand),
         Frame::Question { condition: _ } => Ok(operand),
         Frame::Brackets(_) => Ok(operand),
@@ -205,6 +232,7 @@ fn build(alloc: Global, frame: Frame, operand: Expr) -> Result<Expr, AllocError>
             operand: _,
             more: _,
         } => Ok(operand),
+        Frame::InCast { at: _ } | Frame::InSize { at: _ } | Frame::Alone => Ok(operand),
     }
 }
 
@@ -232,6 +260,10 @@ fn number_at(frame: &Frame) -> u32
             operand: _,
             more: _,
         } => ENDS,
+        Frame::Alone => ENDS,
+        Frame::Cast { at: _, name: _ } => PREFIX,
+        Frame::InCast { at: _ } => 0,
+        Frame::InSize { at: _ } => 0,
         Frame::Parentheses { at: _ } => 0,
         Frame::Question { condition: _ } => 0,
         Frame::Brackets(_) => 0,

@@ -1,13 +1,13 @@
 //! What words are where an operand begins, and behind one.
 
 ghost use Rattle.std.specs.Prelude.{◌≡◌};
-ghost use Rattle.porch_parse.specs.inside.Parts.{part_of, start_of, mark_part, mark_start};
+ghost use Rattle.porch_parse.specs.Parts.{part_of, start_of, mark_part, mark_start};
 
 use porch_tree::{Assigning, Infix, Keyword, Mark, Prefix, Word};
 
 /// What a word is behind an operand.
 #[derive(Clone, Copy, Debug)]
-pub(crate) enum Part {
+pub enum Part {
     Infix(Infix),
     Assigning(Assigning),
     Question,
@@ -21,6 +21,8 @@ pub(crate) enum Part {
     Arrow,
     Increase,
     Decrease,
+    /// `;` or `}`
+    End,
     /// One more string literal.
     Text,
     Other,
@@ -28,7 +30,7 @@ pub(crate) enum Part {
 
 /// What a word is where an operand begins.
 #[derive(Clone, Copy, Debug)]
-pub(crate) enum Start {
+pub enum Start {
     Name,
     Whole,
     Character,
@@ -84,9 +86,8 @@ fn mark_part(mark: Mark) -> Part
         Mark::Arrow => Part::Arrow,
         Mark::PlusPlus => Part::Increase,
         Mark::MinusMinus => Part::Decrease,
-        Mark::OpenBrace | Mark::CloseBrace | Mark::Tilde | Mark::Not | Mark::Semicolon => {
-            Part::Other
-        }
+        Mark::Semicolon | Mark::CloseBrace => Part::End,
+        Mark::OpenBrace | Mark::Tilde | Mark::Not => Part::Other,
     }
 }
 

@@ -2,26 +2,33 @@
 
 ghost use Rattle.std.specs.Prelude.{ℕ, ◌≡◌, List, [], ◌∷◌, ◌++◌, map, IfOk};
 ghost use Rattle.porch_tree.specs.Mirror.{nested, call};
-ghost use Rattle.porch_tree.specs.Views.{exprs_of, expr_of, suffix_of};
+ghost use Rattle.porch_tree.specs.Names.{takes_cast};
+ghost use Rattle.porch_tree.specs.Views.{exprs_of, expr_of, suffix_of, type_name_of};
 ghost use Rattle.porch_parse.specs.declared.frame.Frame.{Frame};
-ghost use Rattle.porch_parse.specs.inside.Building as building;
-ghost use Rattle.porch_parse.specs.inside.Building.{awaits, behind, goes_on, extended, operated, operand, suffixed_by, value_of, closed, has_commas, listed, asked, assigned, behind_the_comma, behind_the_colon, behind_parenthesis, behind_bracket, behind_nothing, behind_infix, behind_colon, behind_comma, in_arguments};
-ghost use Rattle.porch_parse.specs.inside.Shown.{infixed_of, operand_of, frame_of, frames_of, state_of};
+ghost use Rattle.porch_parse.specs.Building as building;
+ghost use Rattle.porch_parse.specs.Building.{at_type, in_size, rest, typed, parenthesis, top_prefix, behind_all, stands_alone, type_behind, type_closed, awaits, behind, goes_on, extended, operated, operand, suffixed_by, value_of, closed, has_commas, listed, asked, assigned, behind_the_comma, behind_the_colon, behind_parenthesis, behind_bracket, behind_nothing, behind_infix, behind_colon, behind_comma, in_arguments};
+ghost use Rattle.porch_parse.specs.Shown.{infixed_of, operand_of, frame_of, frames_of, state_of};
 
 use crate::frame::{Frame, Operand, close, number_of};
-use porch_tree::{Assigning, Expr, Infix, Suffix};
+use porch_tree::{Assigning, Expr, Infix, Prefix, Suffix, TypeName};
 use sqlite_items::{Boxed, Items};
 use std::alloc::{AllocError, Global};
 
 /// What stands in front of the next token.
 #[derive(Drop)]
-pub(crate) enum Phase {
+pub enum Phase {
     /// An operand comes next.
     Awaits,
     /// An operand has been read.
     Behind(Operand),
     /// A dot or, where it is far, an arrow has been read behind it.
     Member(bool, Operand),
+    /// `(` has been read where a type in parentheses may stand.
+    Opened { at: u32 },
+    /// A type begins with this very token.
+    AtType,
+    /// The expression ended in front of this very token.
+    Over(Expr),
     /// No expression has these tokens.
     Broken,
 }
@@ -118,6 +125,10 @@ fn is_row_of(frame: &Frame, operator: Infix) -> bool
             operand: _,
             more: _,
         } => false,
+        Frame::Cast { at: _, name: _ } => false,
+        Frame::InCast { at: _ } => false,
+        Frame::InSize { at: _ } => false,
+        Frame::Alone => false,
     }
 }
 
@@ -135,6 +146,10 @@ fn extend(frames: &mut Items<Frame>, operator: Infix, operand: Expr) -> Result<P
             },
         ) => { go_on(frames, operator, first, more, before, operand) }
         None
+        | Some(Frame::Alone)
+        | Some(Frame::Cast { at: _, name: _ })
+        | Some(Frame::InCast { at: _ })
+        | Some(Frame::InSize { at: _ })
         | Some(Frame::Prefix { at: _, prefix: _ })
         | Some(
             Frame::Colon {
@@ -238,6 +253,10 @@ fn is_list(frame: &Frame) -> bool
 {
     match frame {
         Frame::Comma { first: _, more: _ } => true,
+        Frame::Alone => true,
+        Frame::Cast { at: _, name: _ } => false,
+        Frame::InCast { at: _ } => false,
+        Frame::InSize { at: _ } => false,
         Frame::Arguments {
             operand: _,
             more: _,
@@ -269,7 +288,11 @@ fn list(frames: &mut Items<Frame>, expr: Expr) -> Result<Phase, AllocError>
     match frames.pop() {
         Some(Frame::Comma { first, more }) => list_expr(frames, first, more, expr),
         Some(Frame::Arguments { operand, more }) => list_argument(frames, operand, more, expr),
+        Some(Frame::Alone) => Ok(Phase::Over(expr)),
         None
+        | Some(Frame::Cast { at: _, name: _ })
+        | Some(Frame::InCast { at: _ })
+        | Some(Frame::InSize { at: _ })
         | Some(Frame::Prefix { at: _, prefix: _ })
         | Some(
             Frame::Infix {
@@ -407,8 +430,11 @@ pub(crate) fn end_chosen(
 {
     match frames.pop() {
         Some(Frame::Question { condition }) => choose(alloc, frames, condition, chosen),
-        None
-        | Some(Frame::Prefix { at: _, prefix: _ })
+        None | Some(Frame::Alone) => Ok(Phase::Over(chosen)),
+        Some(Frame::Prefix { at: _, prefix: _ })
+        | Some(Frame::Cast { at: _, name: _ })
+        | Some(Frame::InCast { at: _ })
+        | Some(Frame::InSize { at: _ })
         | Some(
             Frame::Infix {
                 first: _,
@@ -471,8 +497,11 @@ pub(crate) fn end_parenthesis(
     match frames.pop() {
         Some(Frame::Parentheses { at }) => nest(alloc, at, expr),
         Some(Frame::Arguments { operand, more }) => call(operand, more, expr),
-        None
-        | Some(Frame::Prefix { at: _, prefix: _ })
+        None | Some(Frame::Alone) => Ok(Phase::Over(expr)),
+        Some(Frame::Prefix { at: _, prefix: _ })
+        | Some(Frame::Cast { at: _, name: _ })
+        | Some(Frame::InCast { at: _ })
+        | Some(Frame::InSize { at: _ })
         | Some(
             Frame::Infix {
                 first: _,
@@ -505,8 +534,11 @@ pub(crate) fn end_bracket(frames: &mut Items<Frame>, expr: Expr) -> Result<Phase
 {
     match frames.pop() {
         Some(Frame::Brackets(operand)) => suffix(operand, Suffix::Index(expr)),
-        None
-        | Some(Frame::Prefix { at: _, prefix: _ })
+        None | Some(Frame::Alone) => Ok(Phase::Over(expr)),
+        Some(Frame::Prefix { at: _, prefix: _ })
+        | Some(Frame::Cast { at: _, name: _ })
+        | Some(Frame::InCast { at: _ })
+        | Some(Frame::InSize { at: _ })
         | Some(
             Frame::Infix {
                 first: _,
@@ -557,6 +589,10 @@ pub(crate) fn end_nothing(frames: &mut Items<Frame>) -> Result<Phase, AllocError
     match frames.pop() {
         Some(Frame::Arguments { operand, more }) => call_bare(operand, more),
         None
+        | Some(Frame::Alone)
+        | Some(Frame::Cast { at: _, name: _ })
+        | Some(Frame::InCast { at: _ })
+        | Some(Frame::InSize { at: _ })
         | Some(Frame::Prefix { at: _, prefix: _ })
         | Some(
             Frame::Infix {
@@ -581,5 +617,280 @@ pub(crate) fn end_nothing(frames: &mut Items<Frame>) -> Result<Phase, AllocError
         | Some(Frame::Parentheses { at: _ })
         | Some(Frame::Question { condition: _ })
         | Some(Frame::Brackets(_)) => Ok(Phase::Broken),
+    }
+}
+
+fn stands_alone(frames: &Items<Frame>) -> bool
+    ensures { (text : List ℕ) → result ≡ stands_alone (frames_of text frames.now) }
+{
+    match frames.as_slice() {
+        [] => true,
+        [.., frame] => is_alone(frame),
+    }
+}
+
+fn is_alone(frame: &Frame) -> bool
+    ensures { (text : List ℕ) (frames : List building.Frame) → result
+        ≡ stands_alone (frame_of text frame.now ∷ frames) }
+{
+    match frame {
+        Frame::Alone => true,
+        Frame::Infix {
+            first: _,
+            more: _,
+            operator: _,
+        } => false,
+        Frame::Colon {
+            condition: _,
+            chosen: _,
+        } => false,
+        Frame::Assigning {
+            assigning: _,
+            place: _,
+        } => false,
+        Frame::Comma { first: _, more: _ } => false,
+        Frame::Parentheses { at: _ } => false,
+        Frame::Question { condition: _ } => false,
+        Frame::Brackets(_) => false,
+        Frame::Arguments {
+            operand: _,
+            more: _,
+        } => false,
+        Frame::Cast { at: _, name: _ } => false,
+        Frame::Prefix { at: _, prefix: _ } => false,
+        Frame::InCast { at: _ } => false,
+        Frame::InSize { at: _ } => false,
+    }
+}
+
+/// The expression ended in front of a word that ends whatever it stands in.
+pub(crate) fn end_all(frames: &mut Items<Frame>, expr: Expr) -> Result<Phase, AllocError>
+    ensures { IfOk result (λ p. (text : List ℕ) →
+        state_of text frames.new p
+        ≡ behind_all (frames_of text frames.old) (expr_of text expr)) }
+{
+    let ends = stands_alone(frames);
+    drop_innermost(frames);
+    Ok(if ends {
+        Phase::Over(expr)
+    } else {
+        Phase::Broken
+    })
+}
+
+fn type_place(frames: &Items<Frame>) -> Option<(bool, u32)>
+    ensures { (text : List ℕ) → result ≡ building.open_type (frames_of text frames.now) }
+{
+    match frames.as_slice() {
+        [] => None,
+        [.., frame] => place_of_type(frame),
+    }
+}
+
+fn place_of_type(frame: &Frame) -> Option<(bool, u32)>
+    ensures { (text : List ℕ) (frames : List building.Frame) → result
+        ≡ building.open_type (frame_of text frame.now ∷ frames) }
+{
+    match frame {
+        Frame::InCast { at } => Some((true, *at)),
+        Frame::InSize { at } => Some((false, *at)),
+        Frame::Infix {
+            first: _,
+            more: _,
+            operator: _,
+        } => None,
+        Frame::Colon {
+            condition: _,
+            chosen: _,
+        } => None,
+        Frame::Assigning {
+            assigning: _,
+            place: _,
+        } => None,
+        Frame::Comma { first: _, more: _ } => None,
+        Frame::Parentheses { at: _ } => None,
+        Frame::Question { condition: _ } => None,
+        Frame::Brackets(_) => None,
+        Frame::Arguments {
+            operand: _,
+            more: _,
+        } => None,
+        Frame::Cast { at: _, name: _ } => None,
+        Frame::Prefix { at: _, prefix: _ } => None,
+        Frame::Alone => None,
+    }
+}
+
+fn go_on_behind(
+    alloc: Global,
+    frames: &mut Items<Frame>,
+    is_cast: bool,
+    at: u32,
+    name: Boxed<TypeName>,
+) -> Result<Phase, AllocError>
+    ensures { IfOk result (λ p. (text : List ℕ) →
+        state_of text frames.new p
+        ≡ type_behind is_cast at (frames_of text frames.old) (type_name_of text name)) }
+{
+    if is_cast {
+        open(frames, Frame::Cast { at, name })
+    } else {
+        Ok(read(alloc, Expr::SizeOf { at, name }))
+    }
+}
+
+/// The type of a cast, or one whose size is taken, ended in front of the parenthesis that closes it.
+pub(crate) fn end_type(
+    alloc: Global,
+    frames: &mut Items<Frame>,
+    name: Boxed<TypeName>,
+) -> Result<Phase, AllocError>
+    ensures { IfOk result (λ p. (text : List ℕ) →
+        state_of text frames.new p
+        ≡ type_closed (frames_of text frames.old) (type_name_of text name)) }
+{
+    match type_place(frames) {
+        None => Ok(Phase::Broken),
+        Some((is_cast, at)) => {
+            drop_innermost(frames);
+            go_on_behind(alloc, frames, is_cast, at, name)
+        }
+    }
+}
+
+fn innermost_prefix(frames: &Items<Frame>) -> Option<(u32, Prefix)>
+    ensures { (text : List ℕ) → result ≡ top_prefix (frames_of text frames.now) }
+{
+    match frames.as_slice() {
+        [] => None,
+        [.., frame] => prefix_of(frame),
+    }
+}
+
+fn prefix_of(frame: &Frame) -> Option<(u32, Prefix)>
+    ensures { (text : List ℕ) (frames : List building.Frame) → result
+        ≡ top_prefix (frame_of text frame.now ∷ frames) }
+{
+    match frame {
+        Frame::Prefix { at, prefix } => Some((*at, *prefix)),
+        Frame::Infix {
+            first: _,
+            more: _,
+            operator: _,
+        } => None,
+        Frame::Colon {
+            condition: _,
+            chosen: _,
+        } => None,
+        Frame::Assigning {
+            assigning: _,
+            place: _,
+        } => None,
+        Frame::Comma { first: _, more: _ } => None,
+        Frame::Parentheses { at: _ } => None,
+        Frame::Question { condition: _ } => None,
+        Frame::Brackets(_) => None,
+        Frame::Arguments {
+            operand: _,
+            more: _,
+        } => None,
+        Frame::Cast { at: _, name: _ } => None,
+        Frame::InCast { at: _ } => None,
+        Frame::InSize { at: _ } => None,
+        Frame::Alone => None,
+    }
+}
+
+fn may_cast(prefix: Prefix) -> bool
+    ensures { result ≡ takes_cast prefix }
+{
+    match prefix {
+        Prefix::Increase | Prefix::Decrease => false,
+        Prefix::Address
+        | Prefix::Pointee
+        | Prefix::Plus
+        | Prefix::Minus
+        | Prefix::Complement
+        | Prefix::Not
+        | Prefix::Sizeof => true,
+    }
+}
+
+fn takes_type(innermost: Option<(u32, Prefix)>) -> bool
+    ensures { result ≡ building.may_cast innermost }
+{
+    match innermost {
+        None => true,
+        Some((_, prefix)) => may_cast(prefix),
+    }
+}
+
+/// `(` where an operand may stand.
+pub(crate) fn open_parenthesis(frames: &mut Items<Frame>, at: u32) -> Result<Phase, AllocError>
+    ensures { IfOk result (λ p. (text : List ℕ) →
+        state_of text frames.new p ≡ parenthesis (frames_of text frames.old) at) }
+{
+    if takes_type(innermost_prefix(frames)) {
+        Ok(Phase::Opened { at })
+    } else {
+        open(frames, Frame::Parentheses { at })
+    }
+}
+
+fn sizeof_place(at: u32, prefix: Prefix) -> Option<u32>
+    ensures { result ≡ building.sizeof_place at prefix }
+{
+    match prefix {
+        Prefix::Sizeof => Some(at),
+        Prefix::Increase
+        | Prefix::Decrease
+        | Prefix::Address
+        | Prefix::Pointee
+        | Prefix::Plus
+        | Prefix::Minus
+        | Prefix::Complement
+        | Prefix::Not => None,
+    }
+}
+
+fn sizeof_in(innermost: Option<(u32, Prefix)>) -> Option<u32>
+    ensures { result ≡ building.sizeof_in innermost }
+{
+    match innermost {
+        None => None,
+        Some((at, prefix)) => sizeof_place(at, prefix),
+    }
+}
+
+fn drop_innermost(frames: &mut Items<Frame>)
+    ensures { (text : List ℕ) → frames_of text frames.new ≡ rest (frames_of text frames.old) }
+{
+    let _ = frames.pop();
+}
+
+fn begin_type(frames: &mut Items<Frame>, frame: Frame) -> Result<Phase, AllocError>
+    ensures { IfOk result (λ p. (text : List ℕ) →
+        state_of text frames.new p ≡ at_type (frame_of text frame ∷ frames_of text frames.old)) }
+{
+    frames.push(frame)?;
+    Ok(Phase::AtType)
+}
+
+fn begin_size(frames: &mut Items<Frame>, at: u32) -> Result<Phase, AllocError>
+    ensures { IfOk result (λ p. (text : List ℕ) →
+        state_of text frames.new p ≡ at_type (in_size at ∷ rest (frames_of text frames.old))) }
+{
+    drop_innermost(frames);
+    begin_type(frames, Frame::InSize { at })
+}
+
+/// A type behind `(`.
+pub(crate) fn open_type(frames: &mut Items<Frame>, at: u32) -> Result<Phase, AllocError>
+    ensures { IfOk result (λ p. (text : List ℕ) →
+        state_of text frames.new p ≡ typed (frames_of text frames.old) at) }
+{
+    match sizeof_in(innermost_prefix(frames)) {
+        Some(place) => begin_size(frames, place),
+        None => begin_type(frames, Frame::InCast { at }),
     }
 }

@@ -1,42 +1,87 @@
 //! What the builder does at each token of an expression.
 
 ghost use Rattle.std.specs.Prelude.{ℕ, ◌≡◌, List, map, IfOk};
-ghost use Rattle.porch_tree.specs.Views.{expr_of, suffix_of, name_of};
-ghost use Rattle.porch_lex.specs.Words.{spelled_token};
-ghost use Rattle.porch_parse.specs.inside.Building.{operated, ending, assigned, asked, behind_the_comma, behind_the_colon, behind_parenthesis, behind_bracket, behind_text, start_step, part_step, member_step, step, spelt_name, ends_number, comma_number, assigning_number, level_number};
+ghost use Rattle.porch_tree.specs.Views.{expr_of, suffix_of, name_of, type_name_of};
+ghost use Rattle.porch_lex.specs.Words.{kind_word, spelled_token};
+ghost use Rattle.porch_parse.specs.Building.{operated, ending, assigned, asked, behind_the_comma, behind_the_colon, behind_parenthesis, behind_bracket, behind_text, behind_all, start_step, part_step, member_step, opened_step, step, named, is_close, spelt_name, ends_number, comma_number, assigning_number, level_number};
 ghost use Rattle.porch_tree.specs.Mirror.{texts};
 ghost use Rattle.porch_parse.specs.declared.frame.Frame.{Frame};
-ghost use Rattle.porch_parse.specs.inside.Building as building;
-ghost use Rattle.porch_parse.specs.inside.Shown.{operand_of, frames_of, state_of};
+ghost use Rattle.porch_parse.specs.Building as building;
+ghost use Rattle.porch_parse.specs.Shown.{operand_of, frames_of, state_of};
 
 use crate::frame::{ASSIGNING, COMMA, ENDS, Frame, Operand, number_of};
 use crate::part::{Part, Start, part_at, start_at};
 use crate::phase::{
-    Phase, ask, assign, end, end_bracket, end_chosen, end_nothing, end_parenthesis, open, operate,
-    read, separate, suffix,
+    Phase, ask, assign, end, end_all, end_bracket, end_chosen, end_nothing, end_parenthesis,
+    end_type, open, open_parenthesis, open_type, operate, read, separate, suffix,
 };
 use porch_lex::{Token, word_at};
-use porch_tree::{Assigning, Expr, Infix, Name, Suffix, Word};
-use sqlite_items::Items;
+use porch_tree::{Assigning, Expr, Infix, Mark, Name, Suffix, TypeName, Word};
+use sqlite_items::{Boxed, Items};
 use std::alloc::{AllocError, Global};
 
-/// What stands behind one more token.
-pub(crate) fn next(
+/// What stands behind one more token. `begins` says whether a type can begin with it.
+pub fn next(
     alloc: Global,
     frames: &mut Items<Frame>,
     phase: Phase,
+    begins: bool,
     token: Token,
 ) -> Result<Phase, AllocError>
-    ensures { IfOk result (λ p. (text : List ℕ) →
-        state_of text frames.new p
-        ≡ step (state_of text frames.old phase) (spelled_token text token)) }
+    ensures step { IfOk result (λ p. (text : List ℕ) →
+        state_of text frames.new p ≡ step begins (state_of text frames.old phase)
+        (kind_word token.kind) (spelled_token text token)) }
 {
     match phase {
         Phase::Awaits => begin(alloc, frames, start_at(word_at(token)), token),
         Phase::Behind(operand) => go_on(alloc, frames, operand, part_at(word_at(token)), token),
         Phase::Member(far, operand) => name_member(far, operand, word_at(token), token),
-        Phase::Broken => Ok(Phase::Broken),
+        Phase::Opened { at } => open_next(alloc, frames, at, begins, token),
+        Phase::AtType | Phase::Broken => Ok(Phase::Broken),
+        Phase::Over(_) => Ok(Phase::Broken),
     }
+}
+
+/// What stands behind a type that ended in front of a word, which has to be `)`.
+pub fn name_type(
+    alloc: Global,
+    frames: &mut Items<Frame>,
+    name: Boxed<TypeName>,
+    word: Word,
+) -> Result<Phase, AllocError>
+    ensures named { IfOk result (λ p. (text : List ℕ) →
+        state_of text frames.new p
+        ≡ named (frames_of text frames.old) (type_name_of text name) word) }
+{
+    if is_close(word) {
+        end_type(alloc, frames, name)
+    } else {
+        Ok(Phase::Broken)
+    }
+}
+
+fn is_close(word: Word) -> bool
+    ensures { result ≡ is_close word }
+{
+    matches!(word, Word::Mark(Mark::CloseParenthesis))
+}
+
+fn open_next(
+    alloc: Global,
+    frames: &mut Items<Frame>,
+    at: u32,
+    begins: bool,
+    token: Token,
+) -> Result<Phase, AllocError>
+    ensures { IfOk result (λ p. (text : List ℕ) →
+        state_of text frames.new p ≡ opened_step begins (frames_of text frames.old) at
+        (kind_word token.kind) (spelled_token text token)) }
+{
+    if begins {
+        return open_type(frames, at);
+    }
+    frames.push(Frame::Parentheses { at })?;
+    begin(alloc, frames, start_at(word_at(token)), token)
 }
 
 fn name_at(token: Token) -> Name
@@ -76,7 +121,7 @@ fn begin(
                 prefix,
             },
         ),
-        Start::Open => open(frames, Frame::Parentheses { at: token.from }),
+        Start::Open => open_parenthesis(frames, token.from),
         Start::Close => end_nothing(frames),
         Start::Other => Ok(Phase::Broken),
     }
@@ -114,6 +159,7 @@ fn go_on(
         Part::Arrow => Ok(Phase::Member(true, operand)),
         Part::Increase => suffix(operand, Suffix::Increased),
         Part::Decrease => suffix(operand, Suffix::Decreased),
+        Part::End => end_next(alloc, frames, operand),
         Part::Text => join(alloc, operand, name_at(token)),
         Part::Other => Ok(Phase::Broken),
     }
@@ -301,4 +347,14 @@ fn close_bracket_next(
 {
     let value = end(alloc, frames, ENDS, operand)?;
     end_bracket(frames, value)
+}
+
+fn end_next(alloc: Global, frames: &mut Items<Frame>, operand: Operand) -> Result<Phase, AllocError>
+    ensures { IfOk result (λ p. (text : List ℕ) →
+        state_of text frames.new p
+        ≡ ending (frames_of text frames.old) (operand_of text operand) ends_number
+        behind_all) }
+{
+    let value = end(alloc, frames, ENDS, operand)?;
+    end_all(frames, value)
 }

@@ -11,3 +11,6 @@ returns-in-Assigning c = rw c.in-Assigning.is c.assign.ensures
 
 pub returns-in-Comma : goal.returns-in-Comma
 returns-in-Comma c = rw c.in-Comma.is c.sequence.ensures
+
+pub returns-in-Cast : goal.returns-in-Cast
+returns-in-Cast c = rw c.in-Cast.is c.cast.ensures

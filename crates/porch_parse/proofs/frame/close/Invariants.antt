@@ -1,7 +1,7 @@
 use Rattle.std.proofs.Common.{◌≡◌, ℕ, List, length}
 use Rattle.porch_tree.specs.Views.{expr_of}
-use Rattle.porch_parse.specs.inside.Building.{closed}
-use Rattle.porch_parse.specs.inside.Shown.{frames_of}
+use Rattle.porch_parse.specs.Building.{closed}
+use Rattle.porch_parse.specs.Shown.{frames_of}
 use Rattle.porch_parse.proofs.frame.close.Given as goal
 
 -- What ends from the start on, ends from here on.

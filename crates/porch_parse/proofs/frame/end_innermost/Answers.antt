@@ -1,6 +1,6 @@
 use Rattle.std.proofs.Common.{ap, ◌∙◌, sym}
 use Rattle.porch_tree.specs.Views.{expr_of}
-use Rattle.porch_parse.specs.inside.Shown.{frames_of, ended}
+use Rattle.porch_parse.specs.Shown.{frames_of, ended}
 use Rattle.porch_parse.proofs.Frames.{on_top, when_ok}
 use Rattle.porch_parse.proofs.frame.end_innermost.Goals as goal
 

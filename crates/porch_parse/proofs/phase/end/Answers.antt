@@ -1,6 +1,6 @@
 use Rattle.std.proofs.Common.{ap, ◌∙◌, sym}
-use Rattle.porch_parse.specs.inside.Building.{closed}
-use Rattle.porch_parse.specs.inside.Shown.{frames_of}
+use Rattle.porch_parse.specs.Building.{closed}
+use Rattle.porch_parse.specs.Shown.{frames_of}
 use Rattle.porch_parse.proofs.Frames.{when_ok}
 use Rattle.porch_parse.proofs.phase.end.Goals as goal
 

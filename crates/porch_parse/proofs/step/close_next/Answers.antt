@@ -1,5 +1,5 @@
 use Rattle.std.proofs.Common.{ap, ◌∙◌, sym}
-use Rattle.porch_parse.specs.inside.Building.{Closed, behind_parenthesis}
+use Rattle.porch_parse.specs.Building.{Closed, behind_parenthesis}
 use Rattle.porch_parse.proofs.Frames.{when_ok}
 use Rattle.porch_parse.proofs.step.close_next.Goals as goal
 

@@ -1,8 +1,0 @@
--- what words are in an expression
-pub mod Parts
--- the builder
-pub mod Building
--- what the code's frames are as plain data
-pub mod Shown
--- some small expressions
-pub mod Worked

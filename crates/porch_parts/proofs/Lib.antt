@@ -1,0 +1,9 @@
+mod Levels
+mod Lists
+mod KindWords
+mod Firsts
+mod TypeLists
+mod Built
+mod Outermost
+mod Keys
+mod Voids

@@ -1,0 +1,10 @@
+-- what words are in a type
+pub mod Signs
+-- the builder of types and declarators
+pub mod Types
+-- the reader of expressions and types
+pub mod Parts
+-- what the code's parts are as plain data
+pub mod Shown
+-- what only private contracts cite
+pub mod inside

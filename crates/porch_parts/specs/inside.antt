@@ -1,0 +1,2 @@
+-- some small expressions
+pub mod Worked
