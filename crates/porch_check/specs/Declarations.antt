@@ -18,7 +18,7 @@ use Rattle.porch_tree.specs.Mirror.{Name, Base, kind, void, typedef_name, tag, s
 use Rattle.porch_check.specs.Refusals.{refuse}
 use Rattle.porch_check.specs.Shapes.{Shape, pointer, array, function, Member, Shapes, shape_of, size_of, is_complete, is_ever_complete, completed, with_struct, VOID}
 use Rattle.porch_check.specs.Shapes as shape
-use Rattle.porch_check.specs.Scopes.{Meaning, Tag, Scope, Scopes, meaning_of, meaning_here, tag_of, tag_here, with_name, with_tag, with_struct_tag, with_shape, with_shapes}
+use Rattle.porch_check.specs.Scopes.{Meaning, Tag, Scope, Scopes, meaning_of, hindrance, tag_of, tag_here, with_name, with_tag, with_struct_tag, with_shape, with_shapes}
 use Rattle.porch_check.specs.Scopes as scope
 use Rattle.porch_check.specs.Operands.{Typed, Value, integer, Typing, go_on}
 use Rattle.porch_check.specs.Constants.{Folded, known, folded}
@@ -158,7 +158,7 @@ enumerated at n z s =
 
 -- a name that this scope doesn't declare yet
 abbrev pub if_new : {A : Type 0} → Name → Scopes → Result A Refusal → Result A Refusal
-if_new n s go = if is_some (meaning_here n.bytes s) then refuse Twice n.at else go
+if_new n s go = if is_some (hindrance n.bytes s) then refuse Twice n.at else go
 
 -- Declarators: what stands round a name, from the name outward.
 

@@ -18,5 +18,13 @@ pub mod Declarations
 pub mod Calls
 -- expressions, type names and declarators
 pub mod Expressions
+-- initialisers
+pub mod Initialisers
+-- declarations and statements
+pub mod Statements
+-- the numbers of the types
+pub mod Sealing
+-- whole texts: where to start
+pub mod Units
 -- sources that are worked out
 pub mod worked

@@ -53,6 +53,8 @@ pub record Scopes : Type 0 where
   -- the types of the variables of this function
   pub variables : List ℕ
   pub globals : List GlobalVariable
+  -- the places of their entries
+  pub entries : List ℕ
   -- the functions that have had their bodies, in their order
   pub functions : List Function
 
@@ -89,6 +91,14 @@ tag_of x s = tag_in x (s.inner ∷ s.outer)
 
 abbrev pub meaning_here : List ℕ → Scopes → Option Meaning
 meaning_here x s = of_name x s.inner.names
+
+abbrev pub only_type_name : Option Meaning → Option Meaning
+only_type_name (Some (type_name n)) = Some (type_name n)
+only_type_name m = None
+
+-- What hinders a declaration of a name here: one in this scope, and that of a typedef name in any.
+abbrev pub hindrance : List ℕ → Scopes → Option Meaning
+hindrance x s = or_else (meaning_here x s) (only_type_name (meaning_of x s))
 
 abbrev pub tag_here : List ℕ → Scopes → Option Tag
 tag_here x s = of_tag x s.inner.tags
@@ -151,5 +161,6 @@ first_scopes completes =
       declared = [];
       variables = [];
       globals = [];
+      entries = [];
       functions = [];
     }

@@ -1,10 +1,8 @@
-//! Sources that are worked out. The functions are laws, and have nothing to run.
+//! Sources that are worked out, by subject. The functions are laws, and have nothing to run.
 
-ghost use Rattle.porch_check.specs.worked.Expressions.{IsUnsigned, IsMixed, IsUnknown};
-
-/// Expressions of constants.
-pub fn constants_are_joined()
-    ensures unsigned { IsUnsigned }
-    ensures mixed { IsMixed }
-    ensures unknown { IsUnknown }
-{}
+pub mod calls;
+pub mod names;
+pub mod operators;
+pub mod programs;
+pub mod statements;
+pub mod types;
