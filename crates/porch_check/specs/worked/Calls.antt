@@ -42,6 +42,21 @@ FunctionsAreCalledNumber =
     (brackets (tree.void_list ∷ []))) [] (stmts ((tree.evaluate (tree.present (tree.suffixed (tree.name (word
     36 (codes "g"))) (suffixes ((tree.call (exprs [])) ∷ []))))) ∷ [])))) ∷ []) rule.Mismatch 36
 
+-- int g(int a,int b){return a;}void f(int*q){g(q,x);}
+abbrev pub FunctionsAreCalledOperandsFirst : Type 0
+FunctionsAreCalledOperandsFirst =
+    IsRefused 51 ((tree.function (definition None (tree.kind 0 (key.Int ∷ [])) (tree.declarator 4 []
+    (tree.named (word 4 (codes "g"))) (brackets ((tree.param_list (params ((tree.param (tree.kind 6 (key.Int
+    ∷ [])) (tree.declarator 10 [] (tree.named (word 10 (codes "a"))) (brackets []))) ∷ (tree.param (tree.kind
+    12 (key.Int ∷ [])) (tree.declarator 16 [] (tree.named (word 16 (codes "b"))) (brackets []))) ∷ []))) ∷
+    []))) [] (stmts ((tree.give 19 (tree.present (tree.name (word 26 (codes "a"))))) ∷ [])))) ∷
+    (tree.function (definition None (tree.void 29 (consts 0 0)) (tree.declarator 34 [] (tree.named (word 34
+    (codes "f"))) (brackets ((tree.param_list (params ((tree.param (tree.kind 36 (key.Int ∷ []))
+    (tree.declarator 39 (0 ∷ []) (tree.named (word 40 (codes "q"))) (brackets []))) ∷ []))) ∷ []))) [] (stmts
+    ((tree.evaluate (tree.present (tree.suffixed (tree.name (word 43 (codes "g"))) (suffixes ((tree.call
+    (exprs ((tree.name (word 45 (codes "q"))) ∷ (tree.name (word 47 (codes "x"))) ∷ []))) ∷ []))))) ∷ []))))
+    ∷ []) rule.Unknown 47
+
 -- int g(int a){return a;}void f(int*q){g(q);}
 abbrev pub FunctionsAreCalledArgument : Type 0
 FunctionsAreCalledArgument =

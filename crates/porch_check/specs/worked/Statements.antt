@@ -163,6 +163,28 @@ InitialisersFitOnePast =
     (tree.prefixed 15 prefix.Address (tree.suffixed (tree.name (word 16 (codes "k"))) (suffixes ((tree.index
     (tree.whole (word 18 (codes "2")))) ∷ []))))))) ∷ []))) ∷ []) rule.Mismatch 15
 
+-- int k[2];int*q=&*k;
+abbrev pub InitialisersFitNoIndex : Type 0
+InitialisersFitNoIndex =
+    IsRefused 19 ((tree.declaration (declaration None (tree.kind 0 (key.Int ∷ [])) ((entry (tree.declarator 4
+    [] (tree.named (word 4 (codes "k"))) (brackets ((tree.count (tree.present (tree.whole (word 6 (codes
+    "2"))))) ∷ []))) None) ∷ []))) ∷ (tree.declaration (declaration None (tree.kind 9 (key.Int ∷ [])) ((entry
+    (tree.declarator 12 (0 ∷ []) (tree.named (word 13 (codes "q"))) (brackets [])) (Some (tree.value
+    (tree.prefixed 15 prefix.Address (tree.prefixed 16 prefix.Pointee (tree.name (word 17 (codes "k"))))))))
+    ∷ []))) ∷ []) rule.Mismatch 15
+
+-- int k[2];int*q=&1[k];int main(void){return 0;}
+abbrev pub InitialisersFitEitherOrder : Type 0
+InitialisersFitEitherOrder =
+    IsAccepted 46 ((tree.declaration (declaration None (tree.kind 0 (key.Int ∷ [])) ((entry (tree.declarator
+    4 [] (tree.named (word 4 (codes "k"))) (brackets ((tree.count (tree.present (tree.whole (word 6 (codes
+    "2"))))) ∷ []))) None) ∷ []))) ∷ (tree.declaration (declaration None (tree.kind 9 (key.Int ∷ [])) ((entry
+    (tree.declarator 12 (0 ∷ []) (tree.named (word 13 (codes "q"))) (brackets [])) (Some (tree.value
+    (tree.prefixed 15 prefix.Address (tree.suffixed (tree.whole (word 16 (codes "1"))) (suffixes ((tree.index
+    (tree.name (word 18 (codes "k")))) ∷ []))))))) ∷ []))) ∷ (tree.function (definition None (tree.kind 21
+    (key.Int ∷ [])) (tree.declarator 25 [] (tree.named (word 25 (codes "main"))) (brackets (tree.void_list ∷
+    []))) [] (stmts ((tree.give 36 (tree.present (tree.whole (word 43 (codes "0"))))) ∷ [])))) ∷ [])
+
 -- int k[2][2];int*q=k[1];
 abbrev pub InitialisersFitInnerArray : Type 0
 InitialisersFitInnerArray =

@@ -120,6 +120,19 @@ PointeesAreCompletedInParameters =
     (tree.declarator 34 (0 ∷ []) (tree.named (word 35 (codes "r"))) (brackets []))) ∷ []))) ∷ []))) None) ∷
     []))) ∷ []) rule.Mismatch 9
 
+-- int f(struct p*q,struct p{int a;}*r);int main(void){return 0;}
+abbrev pub PointeesAreCompletedOwnParameters : Type 0
+PointeesAreCompletedOwnParameters =
+    IsAccepted 62 ((tree.declaration (declaration None (tree.kind 0 (key.Int ∷ [])) ((entry (tree.declarator
+    4 [] (tree.named (word 4 (codes "f"))) (brackets ((tree.param_list (params ((tree.param (tree.tag 6
+    Struct (word 13 (codes "p")) (consts 0 0)) (tree.declarator 14 (0 ∷ []) (tree.named (word 15 (codes
+    "q"))) (brackets []))) ∷ (tree.param (tree.structure 17 (Some (word 24 (codes "p"))) (fields ((tree.field
+    (tree.kind 26 (key.Int ∷ [])) (declarators ((tree.declarator 30 [] (tree.named (word 30 (codes "a")))
+    (brackets [])) ∷ []))) ∷ [])) (consts 0 0)) (tree.declarator 33 (0 ∷ []) (tree.named (word 34 (codes
+    "r"))) (brackets []))) ∷ []))) ∷ []))) None) ∷ []))) ∷ (tree.function (definition None (tree.kind 37
+    (key.Int ∷ [])) (tree.declarator 41 [] (tree.named (word 41 (codes "main"))) (brackets (tree.void_list ∷
+    []))) [] (stmts ((tree.give 52 (tree.present (tree.whole (word 59 (codes "0"))))) ∷ [])))) ∷ [])
+
 -- struct p*q;void f(void){q++;}struct p{int a;};
 abbrev pub PointeesAreCompletedUsed : Type 0
 PointeesAreCompletedUsed =
@@ -202,6 +215,14 @@ FunctionsAreDeclaredAlikeStructParameter =
     (word 28 (codes "a"))) (brackets []))) ∷ (tree.param (tree.tag 30 Struct (word 37 (codes "p")) (consts 0
     0)) (tree.declarator 39 [] (tree.named (word 39 (codes "b"))) (brackets []))) ∷ []))) ∷ []))) None) ∷
     []))) ∷ []) rule.StructValue 30
+
+-- int f(struct p a);
+abbrev pub FunctionsAreDeclaredAlikeIncompleteParameter : Type 0
+FunctionsAreDeclaredAlikeIncompleteParameter =
+    IsRefused 18 ((tree.declaration (declaration None (tree.kind 0 (key.Int ∷ [])) ((entry (tree.declarator 4
+    [] (tree.named (word 4 (codes "f"))) (brackets ((tree.param_list (params ((tree.param (tree.tag 6 Struct
+    (word 13 (codes "p")) (consts 0 0)) (tree.declarator 15 [] (tree.named (word 15 (codes "a"))) (brackets
+    []))) ∷ []))) ∷ []))) None) ∷ []))) ∷ []) rule.StructValue 6
 
 -- struct p{int a;}f(void);
 abbrev pub FunctionsAreDeclaredAlikeStructResult : Type 0

@@ -1,12 +1,13 @@
 //! Calls: functions, the library, allocations and literals.
 
-ghost use Rattle.porch_check.specs.worked.Calls.{FunctionsAreCalledNotCalled, FunctionsAreCalledParentheses, FunctionsAreCalledNumber, FunctionsAreCalledArgument, FunctionsAreCalledObject, TheLibraryIsCalledPutchar, TheLibraryIsCalledPuts, TheLibraryIsCalledFree, TheLibraryIsCalledCheckpoint, TheLibraryIsCalledAll, AllocationsHaveSizesOutside, AllocationsHaveSizesParentheses, AllocationsHaveSizesObject, AllocationsHaveSizesTwo, AllocationsHaveSizesNone, AllocationsHaveSizesCount, AllocationsHaveSizesForms, LiteralsAreShownPointer, LiteralsAreShownParentheses, LiteralsAreShownUnsigned, LiteralsAreShownBegins, FormatsAreMatchedConversion, FormatsAreMatchedNumber, FormatsAreMatchedKind, FormatsAreMatchedText, FormatsAreMatchedNoLiteral, FormatsAreMatchedNothing, FormatsAreMatchedMatched};
+ghost use Rattle.porch_check.specs.worked.Calls.{FunctionsAreCalledNotCalled, FunctionsAreCalledParentheses, FunctionsAreCalledNumber, FunctionsAreCalledOperandsFirst, FunctionsAreCalledArgument, FunctionsAreCalledObject, TheLibraryIsCalledPutchar, TheLibraryIsCalledPuts, TheLibraryIsCalledFree, TheLibraryIsCalledCheckpoint, TheLibraryIsCalledAll, AllocationsHaveSizesOutside, AllocationsHaveSizesParentheses, AllocationsHaveSizesObject, AllocationsHaveSizesTwo, AllocationsHaveSizesNone, AllocationsHaveSizesCount, AllocationsHaveSizesForms, LiteralsAreShownPointer, LiteralsAreShownParentheses, LiteralsAreShownUnsigned, LiteralsAreShownBegins, FormatsAreMatchedConversion, FormatsAreMatchedNumber, FormatsAreMatchedKind, FormatsAreMatchedText, FormatsAreMatchedNoLiteral, FormatsAreMatchedNothing, FormatsAreMatchedMatched};
 
 /// A function is called by its name, with one argument for each parameter.
 pub fn functions_are_called()
     ensures not_called { FunctionsAreCalledNotCalled }
     ensures parentheses { FunctionsAreCalledParentheses }
     ensures number { FunctionsAreCalledNumber }
+    ensures operands_first { FunctionsAreCalledOperandsFirst }
     ensures argument { FunctionsAreCalledArgument }
     ensures object { FunctionsAreCalledObject }
 {}

@@ -1,6 +1,6 @@
 //! Statements and initialisers.
 
-ghost use Rattle.porch_check.specs.worked.Statements.{StatementsStandWhereTheyMayBreaks, StatementsStandWhereTheyMayContinues, StatementsStandWhereTheyMayNoResult, StatementsStandWhereTheyMayResult, StatementsStandWhereTheyMayCondition, StatementsStandWhereTheyMaySwitch, StatementsStandWhereTheyMayCase, StatementsStandWhereTheyMayRange, StatementsStandWhereTheyMaySameCase, StatementsStandWhereTheyMayDefault, StatementsStandWhereTheyMayAll, InitialisersFitMore, InitialisersFitNoPart, InitialisersFitLonger, InitialisersFitCall, InitialisersFitOnePast, InitialisersFitInnerArray, InitialisersFitLocal, InitialisersFitArray, InitialisersFitFunction, InitialisersFitConstants};
+ghost use Rattle.porch_check.specs.worked.Statements.{StatementsStandWhereTheyMayBreaks, StatementsStandWhereTheyMayContinues, StatementsStandWhereTheyMayNoResult, StatementsStandWhereTheyMayResult, StatementsStandWhereTheyMayCondition, StatementsStandWhereTheyMaySwitch, StatementsStandWhereTheyMayCase, StatementsStandWhereTheyMayRange, StatementsStandWhereTheyMaySameCase, StatementsStandWhereTheyMayDefault, StatementsStandWhereTheyMayAll, InitialisersFitMore, InitialisersFitNoPart, InitialisersFitLonger, InitialisersFitCall, InitialisersFitOnePast, InitialisersFitNoIndex, InitialisersFitEitherOrder, InitialisersFitInnerArray, InitialisersFitLocal, InitialisersFitArray, InitialisersFitFunction, InitialisersFitConstants};
 
 /// break, continue, return and switch.
 pub fn statements_stand_where_they_may()
@@ -24,6 +24,8 @@ pub fn initialisers_fit()
     ensures longer { InitialisersFitLonger }
     ensures call { InitialisersFitCall }
     ensures one_past { InitialisersFitOnePast }
+    ensures no_index { InitialisersFitNoIndex }
+    ensures either_order { InitialisersFitEitherOrder }
     ensures inner_array { InitialisersFitInnerArray }
     ensures local { InitialisersFitLocal }
     ensures array { InitialisersFitArray }

@@ -1,6 +1,6 @@
 //! Declared types.
 
-ghost use Rattle.porch_check.specs.worked.Types.{ObjectsAreCompleteVoid, ObjectsAreCompleteIncomplete, ObjectsAreCompleteParameter, ObjectsAreCompleteMember, ObjectsAreCompleteFunction, ObjectsAreCompleteElement, ObjectsAreCompleteOfBlock, ObjectsAreCompleteComplete, PointeesAreCompletedVoid, PointeesAreCompletedFunction, PointeesAreCompletedNever, PointeesAreCompletedInParameters, PointeesAreCompletedUsed, PointeesAreCompletedLater, FunctionsAreDeclaredAlikeArray, FunctionsAreDeclaredAlikeFunction, FunctionsAreDeclaredAlikeNoFunction, FunctionsAreDeclaredAlikeNameless, FunctionsAreDeclaredAlikeOtherType, FunctionsAreDeclaredAlikeStructParameter, FunctionsAreDeclaredAlikeStructResult, FunctionsAreDeclaredAlikeArrayParameter, ConstantsAreAskedForZero, ConstantsAreAskedForObject, ConstantsAreAskedForOverflow, ConstantsAreAskedForNotEvaluated, ConstantsAreAskedForCountedUp, ConstantsAreAskedForEnumeration, ConstantsAreAskedForNarrow, TypesAreSmallArray, TypesAreSmallStructure, TypesAreSmallAll, TypesAreSmallMost, MainIsThereParameter, MainIsThereBeforeTheSum, MainIsThereEmptyList};
+ghost use Rattle.porch_check.specs.worked.Types.{ObjectsAreCompleteVoid, ObjectsAreCompleteIncomplete, ObjectsAreCompleteParameter, ObjectsAreCompleteMember, ObjectsAreCompleteFunction, ObjectsAreCompleteElement, ObjectsAreCompleteOfBlock, ObjectsAreCompleteComplete, PointeesAreCompletedVoid, PointeesAreCompletedFunction, PointeesAreCompletedNever, PointeesAreCompletedInParameters, PointeesAreCompletedOwnParameters, PointeesAreCompletedUsed, PointeesAreCompletedLater, FunctionsAreDeclaredAlikeArray, FunctionsAreDeclaredAlikeFunction, FunctionsAreDeclaredAlikeNoFunction, FunctionsAreDeclaredAlikeNameless, FunctionsAreDeclaredAlikeOtherType, FunctionsAreDeclaredAlikeStructParameter, FunctionsAreDeclaredAlikeIncompleteParameter, FunctionsAreDeclaredAlikeStructResult, FunctionsAreDeclaredAlikeArrayParameter, ConstantsAreAskedForZero, ConstantsAreAskedForObject, ConstantsAreAskedForOverflow, ConstantsAreAskedForNotEvaluated, ConstantsAreAskedForCountedUp, ConstantsAreAskedForEnumeration, ConstantsAreAskedForNarrow, TypesAreSmallArray, TypesAreSmallStructure, TypesAreSmallAll, TypesAreSmallMost, MainIsThereParameter, MainIsThereBeforeTheSum, MainIsThereEmptyList};
 
 /// Objects, parameters, members and elements are complete.
 pub fn objects_are_complete()
@@ -20,6 +20,7 @@ pub fn pointees_are_completed()
     ensures function { PointeesAreCompletedFunction }
     ensures never { PointeesAreCompletedNever }
     ensures in_parameters { PointeesAreCompletedInParameters }
+    ensures own_parameters { PointeesAreCompletedOwnParameters }
     ensures used { PointeesAreCompletedUsed }
     ensures later { PointeesAreCompletedLater }
 {}
@@ -32,6 +33,7 @@ pub fn functions_are_declared_alike()
     ensures nameless { FunctionsAreDeclaredAlikeNameless }
     ensures other_type { FunctionsAreDeclaredAlikeOtherType }
     ensures struct_parameter { FunctionsAreDeclaredAlikeStructParameter }
+    ensures incomplete_parameter { FunctionsAreDeclaredAlikeIncompleteParameter }
     ensures struct_result { FunctionsAreDeclaredAlikeStructResult }
     ensures array_parameter { FunctionsAreDeclaredAlikeArrayParameter }
 {}
