@@ -1,0 +1,5 @@
+//! The tests of checkpoints as bytes: a file made by hand, and each of its flaws.
+#![tactic(auto)]
+
+#[cfg(test)]
+mod files;
