@@ -17,6 +17,7 @@ use crate::compute::{
     compute_operator, compute_return, compute_show,
 };
 use crate::frame::Phase;
+use crate::numbers::{branch_place, compare_numbers, move_number, operate_numbers};
 use crate::pointers::{
     compute_comparison, compute_difference, compute_load, compute_step, compute_subobject,
 };
@@ -31,6 +32,24 @@ impl Run {
     /// A variable becomes an operand.
     #[inline(never)]
     pub(crate) fn perform_move(
+        &mut self,
+        flat: &Flat,
+        variable: u32,
+        read: &Operand,
+    ) -> Result<AStep, AllocError>
+        requires running { self.old.phase ≡ Phase.Running }
+        requires place { self.old.frame.next + 1 < 2 ^ 64 }
+        ensures done { Does flat.now self.old self.new (form.move variable read.now) result }
+    {
+        match move_number(flat, self, variable, read) {
+            Some(number) => self.give_number(variable, number),
+            None => self.move_value(flat, variable, read),
+        }
+    }
+
+    // The same for all values.
+    #[inline(never)]
+    fn move_value(
         &mut self,
         flat: &Flat,
         variable: u32,
@@ -81,6 +100,30 @@ impl Run {
             (form.operator op to left.now right.now))
             (state_of self.old) (state_of self.new) result }
     {
+        match operate_numbers(flat, self, widths, op, to, left, right) {
+            Some(number) => self.give_number(to, number),
+            None => self.operate_values(flat, widths, op, to, left, right),
+        }
+    }
+
+    // The same for all values.
+    #[inline(never)]
+    fn operate_values(
+        &mut self,
+        flat: &Flat,
+        widths: Widths,
+        op: Op,
+        to: u32,
+        left: &Operand,
+        right: &Operand,
+    ) -> Result<AStep, AllocError>
+        requires running { self.old.phase ≡ Phase.Running }
+        requires place { self.old.frame.next + 1 < 2 ^ 64 }
+        ensures done { Answers
+            (done_by flat.now (without_input widths) self.old
+            (form.operator op to left.now right.now))
+            (state_of self.old) (state_of self.new) result }
+    {
         let effect = compute_operator(flat, self, widths, op, to, *left, *right)?;
         self.take(effect)
     }
@@ -107,6 +150,27 @@ impl Run {
     /// A variable becomes 1 or 0.
     #[inline(never)]
     pub(crate) fn perform_comparison(
+        &mut self,
+        flat: &Flat,
+        how: Comparison,
+        to: u32,
+        left: &Operand,
+        right: &Operand,
+    ) -> Result<AStep, AllocError>
+        requires running { self.old.phase ≡ Phase.Running }
+        requires place { self.old.frame.next + 1 < 2 ^ 64 }
+        ensures done { Does flat.now self.old self.new
+            (form.comparison how to left.now right.now) result }
+    {
+        match compare_numbers(flat, self, how, left, right) {
+            Some(number) => self.give_number(to, number),
+            None => self.compare_all(flat, how, to, left, right),
+        }
+    }
+
+    // The same for all values.
+    #[inline(never)]
+    fn compare_all(
         &mut self,
         flat: &Flat,
         how: Comparison,
@@ -240,6 +304,26 @@ impl Run {
     /// Goes on at a label where an operand isn't 0.
     #[inline(never)]
     pub(crate) fn perform_branch(
+        &mut self,
+        flat: &Flat,
+        labels: &[Labels],
+        read: &Operand,
+        label: u32,
+    ) -> Result<AStep, AllocError>
+        requires labels { AreLabels flat.now labels.now }
+        requires running { self.old.phase ≡ Phase.Running }
+        requires place { self.old.frame.next + 1 < 2 ^ 64 }
+        ensures done { Does flat.now self.old self.new (form.branch read.now label) result }
+    {
+        match branch_place(flat, self, labels, read, label) {
+            Some(place) => self.go(place),
+            None => self.branch_value(flat, labels, read, label),
+        }
+    }
+
+    // The same for all values.
+    #[inline(never)]
+    fn branch_value(
         &mut self,
         flat: &Flat,
         labels: &[Labels],

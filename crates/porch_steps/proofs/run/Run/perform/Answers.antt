@@ -1,7 +1,6 @@
 use Rattle.std.proofs.Common.{List, refl, sym, ap, ◌∙◌}
 use Rattle.porch_objects.specs.Meaning.{without_input}
 use Rattle.porch_flat.specs.declared.flat.Operand.{Operand}
-use Rattle.porch_flat.specs.declared.whole.Command.{Command}
 use Rattle.porch_flat.specs.whole.Form as form
 use Rattle.porch_flat.specs.whole.Form.{Form, form_of}
 use Rattle.porch_steps.specs.declared.effect.Effect.TheVariants.{On, Count, Reach}
