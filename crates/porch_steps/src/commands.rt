@@ -82,9 +82,70 @@ impl Run {
         self.take(effect)
     }
 
+    /// A variable becomes a sum.
+    #[inline(never)]
+    pub(crate) fn perform_sum(
+        &mut self,
+        flat: &Flat,
+        widths: Widths,
+        to: u32,
+        left: &Operand,
+        right: &Operand,
+    ) -> Result<AStep, AllocError>
+        requires running { self.old.phase ≡ Phase.Running }
+        requires place { self.old.frame.next + 1 < 2 ^ 64 }
+        ensures done { Answers
+            (done_by flat.now (without_input widths) self.old
+            (form.operator Op.Add to left.now right.now))
+            (state_of self.old) (state_of self.new) result }
+    {
+        self.operate(flat, widths, Op::Add, to, left, right)
+    }
+
+    /// A variable becomes what a subtraction gives.
+    #[inline(never)]
+    pub(crate) fn perform_subtraction(
+        &mut self,
+        flat: &Flat,
+        widths: Widths,
+        to: u32,
+        left: &Operand,
+        right: &Operand,
+    ) -> Result<AStep, AllocError>
+        requires running { self.old.phase ≡ Phase.Running }
+        requires place { self.old.frame.next + 1 < 2 ^ 64 }
+        ensures done { Answers
+            (done_by flat.now (without_input widths) self.old
+            (form.operator Op.Sub to left.now right.now))
+            (state_of self.old) (state_of self.new) result }
+    {
+        self.operate(flat, widths, Op::Sub, to, left, right)
+    }
+
     /// A variable becomes the result of an operator.
     #[inline(never)]
     pub(crate) fn perform_operator(
+        &mut self,
+        flat: &Flat,
+        widths: Widths,
+        op: Op,
+        to: u32,
+        left: &Operand,
+        right: &Operand,
+    ) -> Result<AStep, AllocError>
+        requires running { self.old.phase ≡ Phase.Running }
+        requires place { self.old.frame.next + 1 < 2 ^ 64 }
+        ensures done { Answers
+            (done_by flat.now (without_input widths) self.old
+            (form.operator op to left.now right.now))
+            (state_of self.old) (state_of self.new) result }
+    {
+        self.operate(flat, widths, op, to, left, right)
+    }
+
+    // The quick way where it serves. It is inlined, so that most is settled where the operator is known.
+    #[inline(always)]
+    fn operate(
         &mut self,
         flat: &Flat,
         widths: Widths,

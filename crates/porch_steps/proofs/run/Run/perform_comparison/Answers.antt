@@ -11,5 +11,5 @@ pub returns-in-Some : goal.returns-in-Some
 returns-in-Some c =
     let effect = Become c.args.to (Number c.in-Some.number) in
     let led : Led c.args.self.now c.give_number.new.self effect c.give_number.result =
-        subst (λ z. Led c.args.self.now c.give_number.new.self (Become c.args.to (Number z)) c.give_number.result) (to_z-of_z w128 c.in-Some.number (search rules)) c.give_number.ensures.led in
+    subst (λ z. Led c.args.self.now c.give_number.new.self (Become c.args.to (Number z)) c.give_number.result) (to_z-of_z w128 c.in-Some.number (search rules)) c.give_number.ensures.led in
     record { done = λ under. obeyed c.args.flat.now under c.args.self.now c.give_number.new.self _ effect _ (c.in-Some.ensures under c.args.to) led }
