@@ -1,7 +1,7 @@
 //! Commands on variables: what each leads to is computed, and then done.
 //!
-//! None of these functions is inlined: a function clears all its locals when it begins, and one for all commands would
-//! clear those of all in each step.
+//! None of the functions for a command is inlined: a function clears all its locals when it begins, and one for all commands
+//! would clear those of all in each step. Nor are the ways for all values, which need more locals than the quick ones.
 
 ghost use Rattle.std.specs.Prelude.{◌≡◌, ◌<◌, ◌+◌, ◌^◌};
 ghost use Rattle.porch_flat.specs.whole.Form as form;
