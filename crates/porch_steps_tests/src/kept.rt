@@ -1,4 +1,4 @@
-//! Programs with checkpoints, of which some find pointers past an end that is shared.
+//! Programs with checkpoints, of which some find pointers past an end that is shared, and three with none.
 //! The programs are texts without their head lines. A blank or a newline stands between two lines.
 
 use crate::ends::{End, Program, Start};
@@ -6,7 +6,7 @@ use porch_flat::whole::FlatRule;
 use porch_values::Act;
 
 /// The programs, with how they end.
-pub(crate) static KEPT: [Program; 8] = [
+pub(crate) static KEPT: [Program; 11] = [
     // a loop with a checkpoint in each turn
     Program {
         start: Start::Nothing,
@@ -140,5 +140,47 @@ MOVE(v1, v3); ADD(v3, 48, v1); CHAR(v3, v3); RETURN(0); LABEL(1); PUSH(v0, v1, v
         end: End::Done(0),
         turns: 2,
         output: "6",
+    },
+    // a pointer to a type that comes later
+    Program {
+        start: Start::Nothing,
+        rest: "POINTER(8, 11); STRUCT(9, 0, 4, 8); POINTER(10, 9); ARRAY(11, 0, 5); POINTER(12, 0);
+GLOBAL(0, 11); INIT(0, 0, 104); INIT(0, 1, 105); GLOBAL(1, 8); INITA(1, 0, 0, 0); GLOBAL(2, 4);
+INIT(2, 0, 7); FUNCTION(0, add, 4, 2); VAR(0, 4); VAR(1, 4); BEGIN(); ADD(v0, v0, v1); RETURN(v0);
+END(); FUNCTION(1, main, 4, 0); VAR(0, 4); VAR(1, 6); VAR(2, 8); VAR(3, 9); VAR(4, 10);
+VAR(5, 12); VAR(6, 5); VAR(7, 7); VAR(8, 9); VAR(9, 10); VAR(10, 2); BEGIN(); TURN(); RETURN(0);
+END();",
+        plain: None,
+        end: End::Done(0),
+        turns: 2,
+        output: "",
+    },
+    // a jump over a command, with no turn
+    Program {
+        start: Start::Nothing,
+        rest: "POINTER(8, 4); STRUCT(9, 0, 4, 8); POINTER(10, 9); ARRAY(11, 0, 5); POINTER(12, 0); GLOBAL(0, 11);
+INIT(0, 0, 104); INIT(0, 1, 105); GLOBAL(1, 8); INITA(1, 0, 2, 0); GLOBAL(2, 4); INIT(2, 0, 7);
+FUNCTION(0, add, 4, 2); VAR(0, 4); VAR(1, 4); BEGIN(); ADD(v0, v0, v1); RETURN(v0); END();
+FUNCTION(1, main, 4, 0); VAR(0, 4); VAR(1, 6); VAR(2, 8); VAR(3, 9); VAR(4, 10); VAR(5, 12);
+VAR(6, 5); VAR(7, 7); VAR(8, 9); VAR(9, 10); VAR(10, 2); BEGIN(); MOVE(v0, 1); JUMP(4); LABEL(4);
+RETURN(0); END();",
+        plain: None,
+        end: End::Done(0),
+        turns: 1,
+        output: "",
+    },
+    // the least constant of a long
+    Program {
+        start: Start::Nothing,
+        rest: "POINTER(8, 4); STRUCT(9, 0, 4, 8); POINTER(10, 9); ARRAY(11, 0, 5); POINTER(12, 0); GLOBAL(0, 11);
+INIT(0, 0, 104); INIT(0, 1, 105); GLOBAL(1, 8); INITA(1, 0, 2, 0); GLOBAL(2, 4); INIT(2, 0, 7);
+FUNCTION(0, add, 4, 2); VAR(0, 4); VAR(1, 4); BEGIN(); ADD(v0, v0, v1); RETURN(v0); END();
+FUNCTION(1, main, 4, 0); VAR(0, 4); VAR(1, 6); VAR(2, 8); VAR(3, 9); VAR(4, 10); VAR(5, 12);
+VAR(6, 5); VAR(7, 7); VAR(8, 9); VAR(9, 10); VAR(10, 2); BEGIN(); MOVE(v1, -2147483648);
+RETURN(0); END();",
+        plain: None,
+        end: End::Done(0),
+        turns: 1,
+        output: "",
     },
 ];
