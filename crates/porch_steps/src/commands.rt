@@ -1,7 +1,7 @@
 //! Commands on variables: what each leads to is computed, and then done.
 //!
-//! None of these functions is inlined: a function clears all its locals when it begins, and one for all commands would
-//! clear those of all in each step.
+//! None of the functions for a command is inlined: a function clears all its locals when it begins, and one for all commands
+//! would clear those of all in each step. Nor are the ways for all values, which need more locals than the quick ones.
 
 ghost use Rattle.std.specs.Prelude.{◌≡◌, ◌<◌, ◌+◌, ◌^◌};
 ghost use Rattle.porch_flat.specs.whole.Form as form;
@@ -17,6 +17,7 @@ use crate::compute::{
     compute_operator, compute_return, compute_show,
 };
 use crate::frame::Phase;
+use crate::numbers::{branch_place, compare_numbers, move_number, operate_numbers};
 use crate::pointers::{
     compute_comparison, compute_difference, compute_load, compute_step, compute_subobject,
 };
@@ -31,6 +32,24 @@ impl Run {
     /// A variable becomes an operand.
     #[inline(never)]
     pub(crate) fn perform_move(
+        &mut self,
+        flat: &Flat,
+        variable: u32,
+        read: &Operand,
+    ) -> Result<AStep, AllocError>
+        requires running { self.old.phase ≡ Phase.Running }
+        requires place { self.old.frame.next + 1 < 2 ^ 64 }
+        ensures done { Does flat.now self.old self.new (form.move variable read.now) result }
+    {
+        match move_number(flat, self, variable, read) {
+            Some(number) => self.give_number(variable, number),
+            None => self.move_value(flat, variable, read),
+        }
+    }
+
+    // The same for all values.
+    #[inline(never)]
+    fn move_value(
         &mut self,
         flat: &Flat,
         variable: u32,
@@ -63,9 +82,94 @@ impl Run {
         self.take(effect)
     }
 
+    /// A variable becomes a sum.
+    #[inline(never)]
+    pub(crate) fn perform_sum(
+        &mut self,
+        flat: &Flat,
+        widths: Widths,
+        to: u32,
+        left: &Operand,
+        right: &Operand,
+    ) -> Result<AStep, AllocError>
+        requires running { self.old.phase ≡ Phase.Running }
+        requires place { self.old.frame.next + 1 < 2 ^ 64 }
+        ensures done { Answers
+            (done_by flat.now (without_input widths) self.old
+            (form.operator Op.Add to left.now right.now))
+            (state_of self.old) (state_of self.new) result }
+    {
+        self.operate(flat, widths, Op::Add, to, left, right)
+    }
+
+    /// A variable becomes what a subtraction gives.
+    #[inline(never)]
+    pub(crate) fn perform_subtraction(
+        &mut self,
+        flat: &Flat,
+        widths: Widths,
+        to: u32,
+        left: &Operand,
+        right: &Operand,
+    ) -> Result<AStep, AllocError>
+        requires running { self.old.phase ≡ Phase.Running }
+        requires place { self.old.frame.next + 1 < 2 ^ 64 }
+        ensures done { Answers
+            (done_by flat.now (without_input widths) self.old
+            (form.operator Op.Sub to left.now right.now))
+            (state_of self.old) (state_of self.new) result }
+    {
+        self.operate(flat, widths, Op::Sub, to, left, right)
+    }
+
     /// A variable becomes the result of an operator.
     #[inline(never)]
     pub(crate) fn perform_operator(
+        &mut self,
+        flat: &Flat,
+        widths: Widths,
+        op: Op,
+        to: u32,
+        left: &Operand,
+        right: &Operand,
+    ) -> Result<AStep, AllocError>
+        requires running { self.old.phase ≡ Phase.Running }
+        requires place { self.old.frame.next + 1 < 2 ^ 64 }
+        ensures done { Answers
+            (done_by flat.now (without_input widths) self.old
+            (form.operator op to left.now right.now))
+            (state_of self.old) (state_of self.new) result }
+    {
+        self.operate(flat, widths, op, to, left, right)
+    }
+
+    // The quick way where it serves. It is inlined, so that most is settled where the operator is known.
+    #[inline(always)]
+    fn operate(
+        &mut self,
+        flat: &Flat,
+        widths: Widths,
+        op: Op,
+        to: u32,
+        left: &Operand,
+        right: &Operand,
+    ) -> Result<AStep, AllocError>
+        requires running { self.old.phase ≡ Phase.Running }
+        requires place { self.old.frame.next + 1 < 2 ^ 64 }
+        ensures done { Answers
+            (done_by flat.now (without_input widths) self.old
+            (form.operator op to left.now right.now))
+            (state_of self.old) (state_of self.new) result }
+    {
+        match operate_numbers(flat, self, widths, op, to, left, right) {
+            Some(number) => self.give_number(to, number),
+            None => self.operate_values(flat, widths, op, to, left, right),
+        }
+    }
+
+    // The same for all values.
+    #[inline(never)]
+    fn operate_values(
         &mut self,
         flat: &Flat,
         widths: Widths,
@@ -107,6 +211,27 @@ impl Run {
     /// A variable becomes 1 or 0.
     #[inline(never)]
     pub(crate) fn perform_comparison(
+        &mut self,
+        flat: &Flat,
+        how: Comparison,
+        to: u32,
+        left: &Operand,
+        right: &Operand,
+    ) -> Result<AStep, AllocError>
+        requires running { self.old.phase ≡ Phase.Running }
+        requires place { self.old.frame.next + 1 < 2 ^ 64 }
+        ensures done { Does flat.now self.old self.new
+            (form.comparison how to left.now right.now) result }
+    {
+        match compare_numbers(flat, self, how, left, right) {
+            Some(number) => self.give_number(to, number),
+            None => self.compare_all(flat, how, to, left, right),
+        }
+    }
+
+    // The same for all values.
+    #[inline(never)]
+    fn compare_all(
         &mut self,
         flat: &Flat,
         how: Comparison,
@@ -240,6 +365,26 @@ impl Run {
     /// Goes on at a label where an operand isn't 0.
     #[inline(never)]
     pub(crate) fn perform_branch(
+        &mut self,
+        flat: &Flat,
+        labels: &[Labels],
+        read: &Operand,
+        label: u32,
+    ) -> Result<AStep, AllocError>
+        requires labels { AreLabels flat.now labels.now }
+        requires running { self.old.phase ≡ Phase.Running }
+        requires place { self.old.frame.next + 1 < 2 ^ 64 }
+        ensures done { Does flat.now self.old self.new (form.branch read.now label) result }
+    {
+        match branch_place(flat, self, labels, read, label) {
+            Some(place) => self.go(place),
+            None => self.branch_value(flat, labels, read, label),
+        }
+    }
+
+    // The same for all values.
+    #[inline(never)]
+    fn branch_value(
         &mut self,
         flat: &Flat,
         labels: &[Labels],

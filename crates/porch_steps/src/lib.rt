@@ -2,7 +2,7 @@
 //!
 //! Start at [`Abstract`] in `machine.rt`. `beginning.rt` makes the labels and the globals of a program, `run.rt` has what
 //! is kept of a run and `frame.rt` its frames. `step.rt` takes a step, `commands.rt` what a command on variables does: what it leads
-//! to is computed before it is done (`effect.rt`, `compute.rt`, `pointers.rt`, then `take.rt`), and `heap.rt` and `calls.rt` do what
+//! to is computed before it is done (`effect.rt`, `compute.rt`, `pointers.rt`, then `take.rt`; `numbers.rt` is quicker where all are numbers), and `heap.rt` and `calls.rt` do what
 //! changes more. `specs/Held` says what contracts see of the machine.
 #![tactic(auto)]
 
@@ -14,6 +14,7 @@ mod effect;
 mod frame;
 mod heap;
 mod machine;
+mod numbers;
 mod pointers;
 mod run;
 mod step;

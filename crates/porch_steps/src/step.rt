@@ -41,8 +41,8 @@ impl Run {
         match command {
             Command::Move(v, o) => self.perform_move(flat, *v, o),
             Command::Cast(v, w) => self.perform_cast(flat, widths, *v, *w),
-            Command::Add(v, a, b) => self.perform_operator(flat, widths, Op::Add, *v, a, b),
-            Command::Sub(v, a, b) => self.perform_operator(flat, widths, Op::Sub, *v, a, b),
+            Command::Add(v, a, b) => self.perform_sum(flat, widths, *v, a, b),
+            Command::Sub(v, a, b) => self.perform_subtraction(flat, widths, *v, a, b),
             Command::Mul(v, a, b) => self.perform_operator(flat, widths, Op::Mul, *v, a, b),
             Command::Div(v, a, b) => self.perform_operator(flat, widths, Op::Div, *v, a, b),
             Command::Rem(v, a, b) => self.perform_operator(flat, widths, Op::Rem, *v, a, b),

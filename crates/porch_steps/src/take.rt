@@ -170,6 +170,17 @@ impl Run {
         Ok(AStep::Went)
     }
 
+    /// A variable becomes a number.
+    #[inline(always)]
+    pub(crate) fn give_number(&mut self, variable: u32, number: i128) -> Result<AStep, AllocError>
+        requires running { self.old.phase ≡ Phase.Running }
+        requires place { self.old.frame.next + 1 < 2 ^ 64 }
+        ensures led { Led self.old self.new (Effect.Become variable (Value.Number number)) result }
+    {
+        self.give_value(variable, Value::Number(number))
+    }
+
+    #[inline(always)]
     fn give_value(&mut self, variable: u32, value: Value) -> Result<AStep, AllocError>
         requires running { self.old.phase ≡ Phase.Running }
         requires place { self.old.frame.next + 1 < 2 ^ 64 }
@@ -191,7 +202,9 @@ impl Run {
         Ok(AStep::Went)
     }
 
-    fn go(&mut self, place: usize) -> Result<AStep, AllocError>
+    /// Goes on at a place.
+    #[inline(always)]
+    pub(crate) fn go(&mut self, place: usize) -> Result<AStep, AllocError>
         requires running { self.old.phase ≡ Phase.Running }
         ensures led { Led self.old self.new (Effect.Go place) result }
     {

@@ -2,6 +2,14 @@
 
 ghost use Rattle.porch_steps.specs.Held.{Fits};
 
+use crate::kept::KEPT;
+use crate::made_five::MADE_FIVE;
+use crate::made_four::MADE_FOUR;
+use crate::made_one::MADE_ONE;
+use crate::made_seven::MADE_SEVEN;
+use crate::made_six::MADE_SIX;
+use crate::made_three::MADE_THREE;
+use crate::made_two::MADE_TWO;
 use crate::small::{KINDS, SHAPES, SMALL};
 use porch_abstract::AStep;
 use porch_flat::whole::{FlatRule, Plain, Valid, ValidFault};
@@ -123,6 +131,70 @@ fn try_program(rt: &impl Abort, alloc: Global, program: &Program) -> Result<(), 
 #[test]
 fn small_programs_end_as_they_have_to(rt: HostRuntime) -> Result<(), Fail> {
     for program in &SMALL {
+        try_program(&rt, rt.alloc(), program)?;
+    }
+    Ok(())
+}
+
+#[test]
+fn programs_with_checkpoints_end_as_they_have_to(rt: HostRuntime) -> Result<(), Fail> {
+    for program in &KEPT {
+        try_program(&rt, rt.alloc(), program)?;
+    }
+    Ok(())
+}
+
+#[test]
+fn programs_made_one_end_as_they_have_to(rt: HostRuntime) -> Result<(), Fail> {
+    for program in &MADE_ONE {
+        try_program(&rt, rt.alloc(), program)?;
+    }
+    Ok(())
+}
+
+#[test]
+fn programs_made_two_end_as_they_have_to(rt: HostRuntime) -> Result<(), Fail> {
+    for program in &MADE_TWO {
+        try_program(&rt, rt.alloc(), program)?;
+    }
+    Ok(())
+}
+
+#[test]
+fn programs_made_three_end_as_they_have_to(rt: HostRuntime) -> Result<(), Fail> {
+    for program in &MADE_THREE {
+        try_program(&rt, rt.alloc(), program)?;
+    }
+    Ok(())
+}
+
+#[test]
+fn programs_made_four_end_as_they_have_to(rt: HostRuntime) -> Result<(), Fail> {
+    for program in &MADE_FOUR {
+        try_program(&rt, rt.alloc(), program)?;
+    }
+    Ok(())
+}
+
+#[test]
+fn programs_made_five_end_as_they_have_to(rt: HostRuntime) -> Result<(), Fail> {
+    for program in &MADE_FIVE {
+        try_program(&rt, rt.alloc(), program)?;
+    }
+    Ok(())
+}
+
+#[test]
+fn programs_made_six_end_as_they_have_to(rt: HostRuntime) -> Result<(), Fail> {
+    for program in &MADE_SIX {
+        try_program(&rt, rt.alloc(), program)?;
+    }
+    Ok(())
+}
+
+#[test]
+fn programs_made_seven_end_as_they_have_to(rt: HostRuntime) -> Result<(), Fail> {
+    for program in &MADE_SEVEN {
         try_program(&rt, rt.alloc(), program)?;
     }
     Ok(())

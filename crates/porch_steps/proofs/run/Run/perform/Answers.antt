@@ -1,7 +1,6 @@
 use Rattle.std.proofs.Common.{List, refl, sym, ap, ◌∙◌}
 use Rattle.porch_objects.specs.Meaning.{without_input}
 use Rattle.porch_flat.specs.declared.flat.Operand.{Operand}
-use Rattle.porch_flat.specs.declared.whole.Command.{Command}
 use Rattle.porch_flat.specs.whole.Form as form
 use Rattle.porch_flat.specs.whole.Form.{Form, form_of}
 use Rattle.porch_steps.specs.declared.effect.Effect.TheVariants.{On, Count, Reach}
@@ -15,13 +14,13 @@ pub returns-in-Cast : goal.returns-in-Cast
 returns-in-Cast c = record { done = told c.args.flat.now (without_input c.args.widths) c.args.self.now c.perform_cast.new.self _ _ _ (sym (ap form_of c.in-Cast.is)) c.perform_cast.ensures.done }
 
 pub returns-in-Add : goal.returns-in-Add
-returns-in-Add c = record { done = told c.args.flat.now (without_input c.args.widths) c.args.self.now c.perform_operator.new.self _ _ _ (sym (ap form_of c.in-Add.is)) c.perform_operator.ensures.done }
+returns-in-Add c = record { done = told c.args.flat.now (without_input c.args.widths) c.args.self.now c.perform_sum.new.self _ _ _ (sym (ap form_of c.in-Add.is)) c.perform_sum.ensures.done }
 
 pub returns-in-Sub : goal.returns-in-Sub
-returns-in-Sub c = record { done = told c.args.flat.now (without_input c.args.widths) c.args.self.now c.perform_operator-in-Sub.new.self _ _ _ (sym (ap form_of c.in-Sub.is)) c.perform_operator-in-Sub.ensures.done }
+returns-in-Sub c = record { done = told c.args.flat.now (without_input c.args.widths) c.args.self.now c.perform_subtraction.new.self _ _ _ (sym (ap form_of c.in-Sub.is)) c.perform_subtraction.ensures.done }
 
 pub returns-in-Mul : goal.returns-in-Mul
-returns-in-Mul c = record { done = told c.args.flat.now (without_input c.args.widths) c.args.self.now c.perform_operator-in-Mul.new.self _ _ _ (sym (ap form_of c.in-Mul.is)) c.perform_operator-in-Mul.ensures.done }
+returns-in-Mul c = record { done = told c.args.flat.now (without_input c.args.widths) c.args.self.now c.perform_operator.new.self _ _ _ (sym (ap form_of c.in-Mul.is)) c.perform_operator.ensures.done }
 
 pub returns-in-Div : goal.returns-in-Div
 returns-in-Div c = record { done = told c.args.flat.now (without_input c.args.widths) c.args.self.now c.perform_operator-in-Div.new.self _ _ _ (sym (ap form_of c.in-Div.is)) c.perform_operator-in-Div.ensures.done }
