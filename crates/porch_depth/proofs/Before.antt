@@ -1,14 +1,16 @@
--- A token that lies too deep is one of those that were read.
-use Rattle.std.proofs.Common.{◌≡◌, ◌<◌, ◌≤◌, ◌+◌, ℕ, zero, suc, Bool, true, false, nat_lt, if◌then◌else◌, List, [], ◌∷◌, length, take, Option, Some, None, refl, sym, subst, ap, arith}
+-- The first token that lies too deep is one of those that were read, and what is named by it.
+use Rattle.std.proofs.Common.{◌≡◌, ◌<◌, ◌≤◌, ◌+◌, ℕ, zero, suc, Bool, true, false, nat_lt, if◌then◌else◌, List, [], ◌∷◌, length, take, get_or, Option, Some, None, refl, sym, subst, ap, ◌∙◌, arith}
+use Rattle.std.proofs.lemmas.Bool.{ltb-true, ltb-false}
 use Rattle.porch_tree.specs.Pieces.{Spelled}
-use Rattle.porch_tree.specs.Grammar.{MOST_USES, Fault, syntax_fault, nesting, outside, IsReach, Halts, at_outside, at_stop, at_unit}
-use Rattle.porch_walk.specs.Walk.{Stage, step, start, Wrong, wrong}
+use Rattle.porch_tree.specs.Grammar.{MOST_USES, Fault, nesting, IsReach}
+use Rattle.porch_walk.specs.Walk.{Stage, step, start, Wrong}
+use Rattle.porch_walk.specs.Walk as walk
 use Rattle.porch_walk.specs.Walks.{knows}
 use Rattle.porch_walk.specs.Reach.{IsReachOf}
 use Rattle.porch_depth.specs.declared.level.Level.{Level}
 use Rattle.porch_depth.specs.declared.level.Reading.{Reading}
-use Rattle.porch_depth.specs.Levels.{read, readings, readings_from, shown, deep_from, first_deep, reach_of, nesting_or, first_fault}
-use Rattle.porch_depth.specs.Told.{IsBefore, IsFoundAt, IsFound}
+use Rattle.porch_depth.specs.Levels.{read, readings, readings_from, shown, uses_shown, deep_from, first_deep, reach_of, nesting_or, first_fault}
+use Rattle.porch_depth.specs.Told.{IsShownTooDeep, IsShownFault, too_deep, wrong, IsFound}
 
 some_same : (i j : ℕ) → Some i ≡ Some j → i ≡ j
 some_same i j e = cc
@@ -46,34 +48,66 @@ deep_before n i ts e =
     let d = take_length n ts in
     omega (arith, a, b, c, d)
 
-no_nesting : (ts : List Spelled) (i : ℕ) (o : Option Fault) → Halts ts i o → o ≡ Some nesting → ⊥
-no_nesting ts i (Some outside) (at_outside x) e = cc
-no_nesting ts i (Some syntax_fault) (at_stop x y) e = cc
-no_nesting ts i None (at_unit p u x) e = cc
-no_nesting ts i (Some nesting) h e = elim h [ ]
+-- Which token that is.
 
-found_without : (ts : List Spelled) (w : Option Wrong) → IsReachOf ts w → IsFound ts w
-found_without ts None h = h
-found_without ts (Some w) h = by w.token w.fault h
+deep_least : (ns : List ℕ) (i j : ℕ) → deep_from i ns ≡ Some j → i ≤ j
+deep_least [] i j e = cc
+deep_least (n ∷ ns) i j e = by (deep_least ns (i + 1) j) (nat_lt MOST_USES n) e
   where
-    by : (i : ℕ) (f : Fault) → IsReach ts i (Some f) → IsFoundAt ts i f
-    by i syntax_fault h = h
-    by i outside h = h
-    by i nesting h = absurd (no_nesting ts i (Some nesting) h.halts refl)
+    by : (deep_from (i + 1) ns ≡ Some j → i + 1 ≤ j) → (b : Bool) → (if b then Some i else deep_from (i + 1) ns) ≡ Some j → i ≤ j
+    by f true h = let k = some_same i j h in omega (arith, k)
+    by f false h = let k = f h in omega (arith, k)
 
-before : (ts : List Spelled) (w : Option Wrong) (i : ℕ) → IsReachOf ts w → i < reach_of ts w → IsBefore ts i
-before ts None i h l = record { place = length ts; found = None; reach = h; before = l }
-before ts (Some w) i h l = record { place = w.token; found = Some w.fault; reach = h; before = l }
+deep_at : (ns : List ℕ) (i k : ℕ) → deep_from i ns ≡ Some (i + k) → MOST_USES < get_or ns k 0
+deep_at [] i k e = cc
+deep_at (n ∷ ns) i k e = by (deep_at ns (i + 1)) k (nat_lt MOST_USES n) refl e
+  where
+    by : ((k : ℕ) → deep_from (i + 1) ns ≡ Some (i + 1 + k) → MOST_USES < get_or ns k 0) → (k : ℕ) (b : Bool) → nat_lt MOST_USES n ≡ b → (if b then Some i else deep_from (i + 1) ns) ≡ Some (i + k) → MOST_USES < get_or (n ∷ ns) k 0
+    by f zero true q e = ltb-true MOST_USES n q
+    by f (suc k) true q e = absurd (let h = some_same i (i + suc k) e in omega (arith, h))
+    by f zero false q e = absurd (let h = deep_least ns (i + 1) (i + 0) e in omega (arith, h))
+    by f (suc k) false q e = f k (let s : i + suc k ≡ i + 1 + k = omega arith in e ∙ ap Some s)
 
-found_with : (ts : List Spelled) (w : Option Wrong) (o : Option ℕ) → IsReachOf ts w → ((i : ℕ) → o ≡ Some i → i < reach_of ts w) → IsFound ts (nesting_or o w)
-found_with ts w None h f = found_without ts w h
-found_with ts w (Some i) h f = before ts w i h (f i refl)
+not_before : (ns : List ℕ) (i k m : ℕ) → deep_from i ns ≡ Some (i + k) → m < k → MOST_USES < get_or ns m 0 → ⊥
+not_before [] i k m e h l = cc
+not_before (n ∷ ns) i k m e h l = by (not_before ns (i + 1)) k m (nat_lt MOST_USES n) refl e h l
+  where
+    by : ((k m : ℕ) → deep_from (i + 1) ns ≡ Some (i + 1 + k) → m < k → MOST_USES < get_or ns m 0 → ⊥) → (k m : ℕ) (b : Bool) → nat_lt MOST_USES n ≡ b → (if b then Some i else deep_from (i + 1) ns) ≡ Some (i + k) → m < k → MOST_USES < get_or (n ∷ ns) m 0 → ⊥
+    by f k m true q e h l = let s = some_same i (i + k) e in omega (arith, s)
+    by f zero m false q e h l = omega arith
+    by f (suc k) zero false q e h l = let a = ltb-false MOST_USES n q in omega (arith, a)
+    by f (suc k) (suc m) false q e h l = f k m (let s : i + suc k ≡ i + 1 + k = omega arith in e ∙ ap Some s) (omega (arith, h)) l
 
-pub found : (ts : List Spelled) → IsReachOf ts (wrong 0 start ts) → IsFound ts (first_fault ts)
-found ts h =
-    found_with ts (wrong 0 start ts) (first_deep (take (reach_of ts (wrong 0 start ts)) ts)) h
-    (λ i e. deep_before (reach_of ts (wrong 0 start ts)) i ts e)
+nowhere : (ns : List ℕ) (i m : ℕ) → deep_from i ns ≡ None → MOST_USES < get_or ns m 0 → ⊥
+nowhere [] i m e l = omega (arith, l)
+nowhere (n ∷ ns) i m e l = by (nowhere ns (i + 1)) m (nat_lt MOST_USES n) refl e l
+  where
+    by : ((m : ℕ) → deep_from (i + 1) ns ≡ None → MOST_USES < get_or ns m 0 → ⊥) → (m : ℕ) (b : Bool) → nat_lt MOST_USES n ≡ b → (if b then Some i else deep_from (i + 1) ns) ≡ None → MOST_USES < get_or (n ∷ ns) m 0 → ⊥
+    by f m true q e l = cc
+    by f zero false q e l = let a = ltb-false MOST_USES n q in omega (arith, a)
+    by f (suc m) false q e l = f m e l
+
+-- What is named by that.
+
+deep_named : (ts : List Spelled) (place i : ℕ) (found : Option Fault) → IsReach ts place found → first_deep (take place ts) ≡ Some i → IsShownFault ts i nesting
+deep_named ts place i found r e =
+    let z : i ≡ 0 + i = omega arith in
+    let k : first_deep (take place ts) ≡ Some (0 + i) = e ∙ ap Some z in
+    too_deep place i found r (record { before = deep_before place i ts e; deep = deep_at (uses_shown (take place ts)) 0 i k })
+    (λ j h d. not_before (uses_shown (take place ts)) 0 i j k h d.deep)
+
+none_deep : (ts : List Spelled) (place : ℕ) → first_deep (take place ts) ≡ None → (j : ℕ) → IsShownTooDeep ts place j → ⊥
+none_deep ts place e j d = nowhere (uses_shown (take place ts)) 0 j e d.deep
+
+found_by : (ts : List Spelled) (w : Option Wrong) (o : Option ℕ) → IsReachOf ts w → first_deep (take (reach_of ts w) ts) ≡ o → IsFound ts (nesting_or o w)
+found_by ts None None h e = record { unit = h; shallow = none_deep ts (length ts) e }
+found_by ts None (Some i) h e = deep_named ts (length ts) i None h e
+found_by ts (Some w) None h e = wrong w.token w.fault h (none_deep ts w.token e)
+found_by ts (Some w) (Some i) h e = deep_named ts w.token i (Some w.fault) h e
+
+pub found : (ts : List Spelled) → IsReachOf ts (walk.wrong 0 start ts) → IsFound ts (first_fault ts)
+found ts h = found_by ts (walk.wrong 0 start ts) (first_deep (take (reach_of ts (walk.wrong 0 start ts)) ts)) h refl
 
 -- what an answer says that is the definition's
-pub found_as : (ts : List Spelled) (w o : Option Wrong) → w ≡ wrong 0 start ts → IsReachOf ts w → o ≡ first_fault ts → IsFound ts o
+pub found_as : (ts : List Spelled) (w o : Option Wrong) → w ≡ walk.wrong 0 start ts → IsReachOf ts w → o ≡ first_fault ts → IsFound ts o
 found_as ts w o e h k = subst (λ q. IsFound ts q) (sym k) (found ts (subst (λ q. IsReachOf ts q) e h))

@@ -4,7 +4,7 @@ pub mod Plans
 pub mod Levels
 -- small texts, and texts with many parentheses
 pub mod Worked
--- what an answer says, beside how deep tokens lie
+-- what an answer says of a text
 pub mod Told
 -- what the code answers
 pub mod Faults

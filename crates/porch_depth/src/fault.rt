@@ -44,7 +44,7 @@ pub fn first_fault(
     ensures exact { IfOk result
         (λ found. found_of found ≡ first_fault (spelled text.now tokens.now)) }
 
-    // For Syntax and Outside this is the grammar's first fault, before which what is named for Nesting stands.
+    // This is the grammar's first fault, but that a token lies too deep goes by the uses that are shown of it.
     ensures told { IfOk result
         (λ found. IsFound (spelled text.now tokens.now) (found_of found)) }
 {

@@ -9,6 +9,7 @@ use Rattle.porch_lex.specs.declared.refusal.Refusal.{Refusal}
 use Rattle.porch_lex.specs.declared.token.Token.{Token}
 use Rattle.porch_lex.specs.Tokens.{IsTokens, IsFirstLexFault}
 use Rattle.porch_lex.specs.Words.{spelled}
+use Rattle.porch_depth.specs.Told.{IsShownTooDeep, IsShownUnit, IsShownFault, too_deep, wrong}
 use Rattle.porch_syntax.specs.Tree.{Program}
 use Rattle.porch_syntax.specs.Language.{IsSource}
 use Rattle.porch_source.specs.Comments.{without_comments}
@@ -77,18 +78,47 @@ refusal_is r s a b =
     let make : ℕ → Rule → Refusal = λ at rule. record { at = at; rule = rule } in
     ap (λ at. make at r.rule) a ∙ ap (λ rule. make s.at rule) b
 
+-- A token that lies too deep before one place does so before the other.
+deep_there : (ts : List Spelled) (p q i : ℕ) (f g : Option Fault) → IsReach ts p f → IsReach ts q g → IsShownTooDeep ts p i → IsShownTooDeep ts q i
+deep_there ts p q i f g a b d = subst (λ k. IsShownTooDeep ts k i) (same_place ts p q f g a b) d
+
+token_alone : (ts : List Spelled) (i j : ℕ) (f g : Fault) → IsShownFault ts i f → IsShownFault ts j g → i ≡ j
+token_alone ts i j f g (too_deep p k o r d n) (too_deep q m o' r' d' n') =
+    elim (cases_order k m) [
+      | inl e ↦ e
+      | inr h ↦ elim h [
+        | inl l ↦ absurd (n' k l (deep_there ts p q k o o' r r' d))
+        | inr l ↦ absurd (n m l (deep_there ts q p m o' o r' r d'))
+      ]
+    ]
+token_alone ts i j f g (too_deep p k o r d n) (wrong m w r' n') = absurd (n' k (deep_there ts p m k o (Some w) r r' d))
+token_alone ts i j f g (wrong k v r n) (too_deep q m o' r' d' n') = absurd (n m (deep_there ts q k m o' (Some v) r' r d'))
+token_alone ts i j f g (wrong k v r n) (wrong m w r' n') = same_place ts k m (Some v) (Some w) r r'
+
+fault_alone : (ts : List Spelled) (i j : ℕ) (f g : Fault) → IsShownFault ts i f → IsShownFault ts j g → f ≡ g
+fault_alone ts i j f g (too_deep p k o r d n) (too_deep q m o' r' d' n') = refl
+fault_alone ts i j f g (too_deep p k o r d n) (wrong m w r' n') = absurd (n' k (deep_there ts p m k o (Some w) r r' d))
+fault_alone ts i j f g (wrong k v r n) (too_deep q m o' r' d' n') = absurd (n m (deep_there ts q k m o' (Some v) r' r d'))
+fault_alone ts i j f g (wrong k v r n) (wrong m w r' n') =
+    let same : Some v ≡ Some w = same_fault ts k m (Some v) (Some w) r r' in
+    cc
+
+unit_faultless : (ts : List Spelled) (i : ℕ) (f : Fault) → IsShownUnit ts → IsShownFault ts i f → ⊥
+unit_faultless ts i f u (too_deep p k o r d n) = u.shallow k (deep_there ts p (length ts) k o None r u.unit d)
+unit_faultless ts i f u (wrong k v r n) =
+    let same : None ≡ Some v = same_fault ts (length ts) k None (Some v) u.unit r in
+    cc
+
 grammar_fault_alone : (text : List ℕ) (ts : List Token) (r s : Refusal) → IsGrammarFault text ts r → IsGrammarFault text ts s → r ≡ s
 grammar_fault_alone text ts r s a b =
-    let same : Some a.fault ≡ Some b.fault = same_fault (spelled text ts) a.token b.token (Some a.fault) (Some b.fault) a.found b.found in
-    let fault : a.fault ≡ b.fault = cc in
+    let token = token_alone (spelled text ts) a.token b.token a.fault b.fault a.found b.found in
+    let fault = fault_alone (spelled text ts) a.token b.token a.fault b.fault a.found b.found in
     refusal_is r s
-    (a.place ∙ ap (λ i. place_of (length text) (slice_get (spelled text ts) i)) (same_place (spelled text ts) a.token b.token (Some a.fault) (Some b.fault) a.found b.found) ∙ sym b.place)
+    (a.place ∙ ap (λ i. place_of (length text) (slice_get (spelled text ts) i)) token ∙ sym b.place)
     (a.rule ∙ ap rule_of fault ∙ sym b.rule)
 
 accepted_faultless : (text : List ℕ) (ts : List Token) (r : Refusal) → IsAccepted text ts → IsGrammarFault text ts r → ⊥
-accepted_faultless text ts r a b =
-    let same : None ≡ Some b.fault = same_fault (spelled text ts) (length (spelled text ts)) b.token None (Some b.fault) a.unit b.found in
-    cc
+accepted_faultless text ts r a b = unit_faultless (spelled text ts) b.token b.fault a.unit b.found
 
 -- What holds of the tokens of a text, and of the programs of the language that runs.
 pub record Alone : Type 0 where

@@ -6,9 +6,9 @@ use Rattle.porch_lex.specs.declared.refusal.Refusal.{Refusal}
 use Rattle.porch_lex.specs.declared.token.Token.{Token}
 use Rattle.porch_lex.specs.Tokens.{IsTokens}
 use Rattle.porch_lex.specs.Words.{spelled}
-use Rattle.porch_walk.specs.declared.wrong.WrongToken.{WrongToken}
-use Rattle.porch_walk.specs.Wrongs.{fault_of, wrong_of}
-use Rattle.porch_walk.specs.Reach.{IsReachOf}
+use Rattle.porch_depth.specs.declared.fault.FaultyToken.{FaultyToken}
+use Rattle.porch_depth.specs.Faults.{fault_of, found_of}
+use Rattle.porch_depth.specs.Told.{IsFound}
 use Rattle.porch_syntax.specs.declared.tree.Tree.{Tree}
 use Rattle.porch_syntax.specs.Tree.{Program, program_of}
 use Rattle.porch_syntax.specs.Language.{IsSource}
@@ -26,12 +26,12 @@ unbuilt_for text clean ts (Err e) same a h = elim h [
   | inr k ↦ subst (IsFault text) (sym k.0) (let u : IsUnbuilt text = record { tokens = ts; accepted = a; unlike = λ p s. k.1 p (subst (λ x. IsSource x p) (sym same) s) } in u)
 ]
 
--- a text with a wrong token
-pub wrong_for : (text : List ℕ) (ts : List Token) (r : Refusal) (w : WrongToken) (o : Option WrongToken) → IsTokens text ts → o ≡ Some w
-    → IsReachOf (spelled text ts) (wrong_of o) → r.at ≡ place_of (length text) (slice_get (spelled text ts) w.token) → r.rule ≡ rule_of (fault_of w.fault)
+-- a text with a fault of the grammar
+pub faulty_for : (text : List ℕ) (ts : List Token) (r : Refusal) (w : FaultyToken) (o : Option FaultyToken) → IsTokens text ts → o ≡ Some w
+    → IsFound (spelled text ts) (found_of o) → r.at ≡ place_of (length text) (slice_get (spelled text ts) w.token) → r.rule ≡ rule_of (fault_of w.fault)
     → IsFirstRefusal text r
-wrong_for text ts r w o t e f place rule =
-    in_grammar ts t (record { token = w.token; fault = fault_of w.fault; found = subst (λ x. IsReachOf (spelled text ts) (wrong_of x)) e f; place = place; rule = rule })
+faulty_for text ts r w o t e f place rule =
+    in_grammar ts t (record { token = w.token; fault = fault_of w.fault; found = subst (λ x. IsFound (spelled text ts) (found_of x)) e f; place = place; rule = rule })
 
 -- That a text has one answer.
 pub record OneAnswer (text : List ℕ) : Type 0 where

@@ -5,7 +5,7 @@ ghost use Rattle.porch_lex.specs.declared.refusal.Refusal.{Refusal};
 ghost use Rattle.porch_tree.specs.Grammar.{place_of};
 ghost use Rattle.porch_lex.specs.Tokens.{IsTokens, source_limit};
 ghost use Rattle.porch_lex.specs.Words.{spelled};
-ghost use Rattle.porch_walk.specs.Wrongs.{fault_of};
+ghost use Rattle.porch_depth.specs.Faults.{fault_of};
 ghost use Rattle.porch_syntax.specs.Language.{IsSource};
 ghost use Rattle.porch_syntax.specs.Tree.{Program, program_of};
 ghost use Rattle.porch_source.specs.declared.fault.SourceFault.TheVariants.{Refused, Unbuilt, NoMemory};
@@ -15,9 +15,9 @@ ghost use Rattle.porch_source.specs.inside.Faults.{lex_fault};
 use crate::comments::without_comments;
 use crate::fault::SourceFault;
 use crate::laws::a_text_has_one_answer;
+use porch_depth::{FaultyToken, GrammarFault, first_fault};
 use porch_lex::{Refusal, Rule, Token, lex};
 use porch_syntax::{Tree, parse};
-use porch_walk::{WalkFault, WrongToken, first_wrong};
 use std::alloc::Global;
 
 /// The program that a text is the source of, or the first rule that the text breaks: its size comes first,
@@ -56,9 +56,9 @@ fn read_tokens(alloc: Global, text: &[u8], tokens: &[Token]) -> Result<Tree, Sou
     ensures read { IfOk result (λ tree. IsSourceOf text.now (program_of tree)) }
     ensures refused { IfErr result (IsFault text.now) }
 {
-    match first_wrong(alloc, text, tokens) {
+    match first_fault(alloc, text, tokens) {
         Ok(None) => read_accepted(alloc, text, tokens),
-        Ok(Some(wrong)) => Err(SourceFault::Refused(refusal_of(text, tokens, wrong))),
+        Ok(Some(faulty)) => Err(SourceFault::Refused(refusal_of(text, tokens, faulty))),
         Err(_) => Err(SourceFault::NoMemory),
     }
 }
@@ -98,25 +98,26 @@ fn fault_of_lex(fault: porch_lex::SourceFault) -> SourceFault
     }
 }
 
-// what a text is refused with that has a wrong token
-fn refusal_of(text: &[u8], tokens: &[Token], wrong: WrongToken) -> Refusal
+// what a text is refused with that has a fault of the grammar
+fn refusal_of(text: &[u8], tokens: &[Token], faulty: FaultyToken) -> Refusal
     requires { length text.now ≤ source_limit }
     ensures place { result.at
-        ≡ place_of (length text.now) (slice_get (spelled text.now tokens.now) wrong.token) }
-    ensures rule { result.rule ≡ rule_of (fault_of wrong.fault) }
+        ≡ place_of (length text.now) (slice_get (spelled text.now tokens.now) faulty.token) }
+    ensures rule { result.rule ≡ rule_of (fault_of faulty.fault) }
 {
     Refusal {
-        at: place_of_token(text, tokens, wrong.token),
-        rule: rule_of_fault(wrong.fault),
+        at: place_of_token(text, tokens, faulty.token),
+        rule: rule_of_fault(faulty.fault),
     }
 }
 
-fn rule_of_fault(fault: WalkFault) -> Rule
+fn rule_of_fault(fault: GrammarFault) -> Rule
     ensures { result ≡ rule_of (fault_of fault) }
 {
     match fault {
-        WalkFault::Syntax => Rule::Syntax,
-        WalkFault::Outside => Rule::Outside,
+        GrammarFault::Syntax => Rule::Syntax,
+        GrammarFault::Nesting => Rule::Nesting,
+        GrammarFault::Outside => Rule::Outside,
     }
 }
 

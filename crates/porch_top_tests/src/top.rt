@@ -249,18 +249,139 @@ fn other_texts_are_not_built_yet(rt: HostRuntime) -> Result<(), Fail> {
     Ok(())
 }
 
-/// `int main(void){return ((..1..));}` with so many parentheses.
-fn nested(alloc: Global, depth: usize) -> Result<Vec<u8>, AllocError> {
-    let mut text = Vec::from_slice(alloc, b"int main(void){return ")?;
-    for _ in 0..depth {
-        text.push(b'(')?;
-    }
-    text.push(b'1')?;
-    for _ in 0..depth {
-        text.push(b')')?;
-    }
-    text.extend_from_slice(b";}")?;
+/// A text with two of its parts repeated as often, and the line that it is answered with.
+struct Nested {
+    front: &'static str,
+    opening: &'static str,
+    middle: &'static str,
+    closing: &'static str,
+    rest: &'static str,
+    count: usize,
+    line: &'static str,
+}
+
+static NESTED: [Nested; 11] = [
+    Nested {
+        front: "int main(void){return ",
+        opening: "(",
+        middle: "1",
+        closing: ")",
+        rest: ";}",
+        count: 98,
+        line: "done 1 1\n",
+    },
+    Nested {
+        front: "int main(void){return ",
+        opening: "(",
+        middle: "1",
+        closing: ")",
+        rest: ";}",
+        count: 99,
+        line: "refused Nesting 1 122\n",
+    },
+    // what breaks off behind it is named later
+    Nested {
+        front: "int main(void){return ",
+        opening: "(",
+        middle: "1",
+        closing: "",
+        rest: "",
+        count: 20_000,
+        line: "refused Nesting 1 122\n",
+    },
+    // what breaks another rule before it is named
+    Nested {
+        front: "int main(void){return 1 1;return ",
+        opening: "(",
+        middle: "1",
+        closing: ")",
+        rest: ";}",
+        count: 99,
+        line: "refused Syntax 1 25\n",
+    },
+    Nested {
+        front: "int main(void){int a=0;",
+        opening: "(",
+        middle: "a",
+        closing: ")",
+        rest: ";return 0;}",
+        count: 98,
+        line: "refused Unbuilt 1 1\n",
+    },
+    Nested {
+        front: "int main(void){int a=0;",
+        opening: "(",
+        middle: "a",
+        closing: ")",
+        rest: ";return 0;}",
+        count: 99,
+        line: "refused Nesting 1 123\n",
+    },
+    // `?` behind the parentheses puts them one use deeper
+    Nested {
+        front: "int main(void){int a=0;",
+        opening: "(",
+        middle: "a",
+        closing: ")",
+        rest: "?1:2;return 0;}",
+        count: 99,
+        line: "refused Nesting 1 122\n",
+    },
+    // a loop counts its statement, its body and that body's block, and its condition two more
+    Nested {
+        front: "int main(void){",
+        opening: "while(0){",
+        middle: "",
+        closing: "}",
+        rest: "return 0;}",
+        count: 66,
+        line: "done 0 1\n",
+    },
+    Nested {
+        front: "int main(void){",
+        opening: "while(0){",
+        middle: "",
+        closing: "}",
+        rest: "return 0;}",
+        count: 67,
+        line: "refused Nesting 1 616\n",
+    },
+    // an assignment in the innermost block lies four deeper
+    Nested {
+        front: "int main(void){int a=0;",
+        opening: "while(a<1){",
+        middle: "",
+        closing: "a=a+1;}",
+        rest: "return a;}",
+        count: 65,
+        line: "done 65 66\n",
+    },
+    Nested {
+        front: "int main(void){int a=0;",
+        opening: "while(a<1){",
+        middle: "",
+        closing: "a=a+1;}",
+        rest: "return a;}",
+        count: 66,
+        line: "refused Nesting 1 750\n",
+    },
+];
+
+/// The text of a row.
+fn text_of(alloc: Global, row: &Nested) -> Result<Vec<u8>, AllocError> {
+    let mut text = Vec::from_slice(alloc, row.front.as_bytes())?;
+    add_times(&mut text, row.opening, row.count)?;
+    text.extend_from_slice(row.middle.as_bytes())?;
+    add_times(&mut text, row.closing, row.count)?;
+    text.extend_from_slice(row.rest.as_bytes())?;
     Ok(text)
+}
+
+fn add_times(text: &mut Vec<u8>, part: &str, count: usize) -> Result<(), AllocError> {
+    for _ in 0..count {
+        text.extend_from_slice(part.as_bytes())?;
+    }
+    Ok(())
 }
 
 /// A program with spaces behind it, of so many bytes.
@@ -278,16 +399,6 @@ fn expect_line(rt: &impl Abort, alloc: Global, text: &[u8], err: &str) -> Result
     Ok(())
 }
 
-fn expect_nested(
-    rt: &impl Abort,
-    alloc: Global,
-    depth: usize,
-    err: &str,
-) -> Result<(), AllocError> {
-    let text = nested(alloc, depth)?;
-    expect_line(rt, alloc, text.as_slice(), err)
-}
-
 fn expect_padded(
     rt: &impl Abort,
     alloc: Global,
@@ -299,10 +410,17 @@ fn expect_padded(
 }
 
 #[test]
+fn too_deep_texts_are_refused(rt: HostRuntime) -> Result<(), Fail> {
+    for row in &NESTED {
+        let text = text_of(rt.alloc(), row)?;
+        expect_line(&rt, rt.alloc(), text.as_slice(), row.line)?;
+    }
+    Ok(())
+}
+
+#[test]
 fn limits_hold(rt: HostRuntime) -> Result<(), Fail> {
     let alloc = rt.alloc();
-    expect_nested(&rt, alloc, 198, "done 1 1\n")?;
-    expect_nested(&rt, alloc, 199, "refused Unbuilt 1 1\n")?;
     expect_padded(&rt, alloc, 1_048_576, "done 7 1\n")?;
     expect_padded(&rt, alloc, 1_048_577, "refused TooLarge 1 1\n")?;
     Ok(())
