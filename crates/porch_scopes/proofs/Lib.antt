@@ -1,0 +1,9 @@
+pub mod OneMoreBody
+pub mod Bound
+pub mod Completed
+pub mod DeclaredByName
+pub mod Inserted
+pub mod Stacked
+pub mod Kept
+pub mod MembersByName
+pub mod Placed

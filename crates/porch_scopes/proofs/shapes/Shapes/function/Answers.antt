@@ -1,0 +1,21 @@
+use Rattle.std.proofs.Common.{sym, ap, ◌∙◌}
+use Rattle.porch_check.specs.Shapes.{function}
+use Rattle.porch_shape.specs.Views.{as_shape}
+use Rattle.porch_scopes.specs.declared.row.Row as code_row
+use Rattle.porch_scopes.specs.inside.Rows.{rows_of}
+use Rattle.porch_scopes.proofs.Kept.{function_added}
+use Rattle.porch_scopes.proofs.shapes.Shapes.function.Goals as goal
+
+pub invariant_of-self-2 : goal.invariant_of-self-2
+invariant_of-self-2 c =
+    let rows = c.self.inside.rows.items in (
+      function_added rows c.has_room.new.rows.items c.put.new.rows.items c.new.result c.self.inside.numbers c.add_function.new.self
+          (function c.args.gives c.args.params.now) c.in_ok-number.number
+          (ap (λ (r : code_row.Row). as_shape r.shape) c.new.ensures ∙ ap (function c.args.gives) c.in_ok-params.ensures.items)
+          c.in_ok-number.ensures.number
+          (sym (c.function.ensures (rows_of rows) c.args.gives c.args.params.now c.self.invariant.0
+          (c.deref.ensures.value ∙ c.in_ok-types.ensures)) ∙ c.in-None.is)
+          (c.in_ok-add_function.ensures.added c.args.gives c.args.params.now c.in_ok-types.ensures)
+          c.self.invariant.0 c.in_ok-number.ensures.rows c.put.ensures.rows,
+      c.self.invariant.1,
+    )

@@ -1,0 +1,277 @@
+//! The types of a text while it is read, by number. Equal ones have one number.
+
+ghost use Rattle.std.specs.Prelude.{◌≡◌, ◌++◌, ◌∷◌, [], IfOk, OnOk, OnErr, Some, None};
+ghost use Rattle.std.specs.Option.{option_map, option_map_or};
+ghost use Rattle.porch_check.specs.Shapes.{first_shapes, first_row, numbered, with_struct, completed, shape_of, leaves_of, is_complete, size_of, is_ever_complete, members_of, structure, pointer, array, function, whole, void};
+ghost use Rattle.porch_check.specs.Operators.{member_named};
+ghost use Rattle.porch_shape.specs.Views.{as_shape};
+ghost use Rattle.porch_scopes.specs.Views.{as_member};
+ghost use Rattle.porch_types.specs.Kinds.{kind_number};
+ghost use Rattle.porch_scopes.specs.inside.Rows.{rows_of, array_leaves, leaves_in_rows};
+
+use crate::members::{Member, Members};
+use crate::numbers::Numbers;
+use crate::row::{Row, has_room, put, set};
+use indexmap::IndexMap;
+use porch_shape::Shape;
+use porch_types::Kind;
+use std::alloc::{AllocError, Global};
+use std::marker::Model;
+
+/// The types of a text while it is read. A type that is no struct has the number of its equals, and is
+/// found in a time that doesn't depend on how many there are. Numbers past 2^32 count as want of memory.
+#[derive(Drop)]
+pub struct Shapes<'t> {
+    rows: Vec<Row<'t>>,
+    complete: Vec<u32>,
+    numbers: Numbers,
+    nothing: Shape,
+}
+
+impl<'t> Model for Shapes<'t> {
+    ghost use Rattle.porch_check.specs.Shapes.{Shapes};
+    ghost use Rattle.porch_scopes.specs.inside.Rows.{rows_of, IsNothing};
+    ghost use Rattle.porch_scopes.specs.inside.Numbers.{AreNumbers};
+
+    ghost Value = { Shapes };
+
+    ghost view = { λ s. record { rows = rows_of s.rows.items; complete = s.complete.items } };
+
+    ghost invariant = { λ s. AreNumbers (rows_of s.rows.items) s.numbers × IsNothing s.nothing };
+}
+
+impl<'t> Shapes<'t> {
+    /// The kinds with their numbers, and void behind them.
+    pub fn new(alloc: Global) -> Result<Shapes<'t>, AllocError>
+        ensures { IfOk result (λ shapes. shapes ≡ first_shapes) }
+    {
+        let mut rows = Vec::with_capacity(alloc, 16)?;
+        let mut complete = Vec::with_capacity(alloc, 16)?;
+        put_kind(alloc, &mut rows, &mut complete, Kind::Char)?;
+        put_kind(alloc, &mut rows, &mut complete, Kind::UChar)?;
+        put_kind(alloc, &mut rows, &mut complete, Kind::Short)?;
+        put_kind(alloc, &mut rows, &mut complete, Kind::UShort)?;
+        put_kind(alloc, &mut rows, &mut complete, Kind::Int)?;
+        put_kind(alloc, &mut rows, &mut complete, Kind::UInt)?;
+        put_kind(alloc, &mut rows, &mut complete, Kind::Long)?;
+        put_kind(alloc, &mut rows, &mut complete, Kind::ULong)?;
+        put_void(alloc, &mut rows)?;
+        Ok(Shapes {
+            rows,
+            complete,
+            numbers: Numbers::new(alloc),
+            nothing: Shape::Void,
+        })
+    }
+
+    /// What a type is; void where there is none of the number.
+    pub fn shape(&self, number: u32) -> &Shape
+        ensures { as_shape result.now ≡ shape_of self.now number }
+    {
+        match self.rows.get(number as usize) {
+            Some(row) => &row.shape,
+            None => &self.nothing,
+        }
+    }
+
+    /// The leaves of a type, where it is complete.
+    pub fn leaves(&self, number: u32) -> Option<u64>
+        ensures { result ≡ leaves_of self.now number }
+    {
+        match self.rows.get(number as usize) {
+            Some(row) => row.leaves,
+            None => None,
+        }
+    }
+
+    /// Whether a type is complete.
+    pub fn is_complete(&self, number: u32) -> bool
+        ensures { result ≡ is_complete self.now number }
+    {
+        self.leaves(number).is_some()
+    }
+
+    /// The leaves of a complete type, and 0 for any other.
+    pub fn size(&self, number: u32) -> u64
+        ensures { result ≡ size_of self.now number }
+    {
+        match self.leaves(number) {
+            Some(leaves) => leaves,
+            None => 0,
+        }
+    }
+
+    /// Whether a type is complete, or will be.
+    pub fn is_ever_complete(&self, number: u32) -> bool
+        ensures { result ≡ is_ever_complete self.now number }
+    {
+        match self.rows.get(number as usize) {
+            Some(row) => row.leaves.is_some() || row.awaited,
+            None => false,
+        }
+    }
+
+    /// The member of a name, of a complete struct.
+    pub fn member(&self, number: u32, name: &[u8]) -> Option<Member>
+        ensures { member_named name.now (members_of self.now number)
+            ≡ option_map (as_member name.now) result }
+    {
+        match self.rows.get(number as usize) {
+            Some(row) => row.members.find(name),
+            None => None,
+        }
+    }
+
+    /// The number of the pointer to a type.
+    pub fn pointer(&mut self, to: u32) -> Result<u32, AllocError>
+        ensures number { IfOk result (λ n. numbered (pointer to) self.old ≡ (n, self.new)) }
+        ensures failed { OnErr result (self.new ≡ self.old) }
+    {
+        if let Some(number) = self.numbers.pointer(to) {
+            return Ok(number);
+        }
+        let number = has_room(&mut self.rows, &mut self.complete)?;
+        self.numbers.add_pointer(to, number)?;
+        let alloc = *self.rows.allocator();
+        put(
+            &mut self.rows,
+            &mut self.complete,
+            Row::new(alloc, Shape::Pointer(to), Some(1)),
+        );
+        Ok(number)
+    }
+
+    /// The number of an array of a type, which is incomplete without a count. More than 2^64 leaves count as
+    /// want of memory.
+    pub fn array(&mut self, of: u32, count: Option<u32>) -> Result<u32, AllocError>
+        ensures number { IfOk result (λ n. numbered (array of count) self.old ≡ (n, self.new)) }
+        ensures failed { OnErr result (self.new ≡ self.old) }
+    {
+        if let Some(number) = self.numbers.array(of, count) {
+            return Ok(number);
+        }
+        let leaves = leaves_of_array(count, leaves_at(&self.rows, of))?;
+        let number = has_room(&mut self.rows, &mut self.complete)?;
+        self.numbers.add_array(of, count, number)?;
+        let alloc = *self.rows.allocator();
+        put(
+            &mut self.rows,
+            &mut self.complete,
+            Row::new(alloc, Shape::Array(of, count), leaves),
+        );
+        Ok(number)
+    }
+
+    /// The number of a function with this result and these parameters.
+    pub fn function(&mut self, gives: u32, params: &[u32]) -> Result<u32, AllocError>
+        ensures number { IfOk result (λ n. numbered (function gives params.now) self.old
+            ≡ (n, self.new)) }
+        ensures failed { OnErr result (self.new ≡ self.old) }
+    {
+        let alloc = *self.rows.allocator();
+        let types = signature(alloc, gives, params)?;
+        match self.numbers.function(&types) {
+            Some(number) => return Ok(number),
+            None => {}
+        }
+        let params = Vec::from_slice(alloc, params)?;
+        let number = has_room(&mut self.rows, &mut self.complete)?;
+        self.numbers.add_function(types, number)?;
+        put(
+            &mut self.rows,
+            &mut self.complete,
+            Row::new(alloc, Shape::Function(gives, params), None),
+        );
+        Ok(number)
+    }
+
+    /// A new struct, still incomplete.
+    pub fn structure(&mut self, awaited: bool) -> Result<u32, AllocError>
+        ensures number { IfOk result (λ n. with_struct awaited self.old ≡ (n, self.new)) }
+        ensures failed { OnErr result (self.new ≡ self.old) }
+    {
+        let number = has_room(&mut self.rows, &mut self.complete)?;
+        let alloc = *self.rows.allocator();
+        let mut row = Row::new(alloc, Shape::Structure(number), None);
+        row.awaited = awaited;
+        put(&mut self.rows, &mut self.complete, row);
+        Ok(number)
+    }
+
+    /// Completes a struct by its members.
+    pub fn complete(&mut self, number: u32, members: Members<'t>) -> Result<(), AllocError>
+        requires structure { shape_of self.old number ≡ structure number }
+        ensures completed { OnOk result (self.new
+            ≡ completed number members.entry.list members.entry.leaves self.old) }
+        ensures failed { OnErr result (self.new ≡ self.old) }
+    {
+        self.complete.push(number)?;
+        let leaves = members.leaves();
+        let row = Row {
+            shape: Shape::Structure(number),
+            leaves: Some(leaves),
+            members,
+            awaited: false,
+        };
+        set(&mut self.rows, number, row);
+        Ok(())
+    }
+}
+
+fn leaves_at<'t>(rows: &[Row<'t>], number: u32) -> Option<u64>
+    ensures { result ≡ leaves_in_rows (rows_of rows.now) number }
+{
+    match rows.get(number as usize) {
+        Some(row) => row.leaves,
+        None => None,
+    }
+}
+
+fn leaves_of_array(count: Option<u32>, leaves: Option<u64>) -> Result<Option<u64>, AllocError>
+    ensures { IfOk result (λ all. all ≡ array_leaves count leaves) }
+{
+    match count {
+        None => Ok(None),
+        Some(count) => match leaves {
+            None => Ok(None),
+            Some(leaves) => match u64::from(count).checked_mul(leaves) {
+                None => Err(AllocError),
+                Some(all) => Ok(Some(all)),
+            },
+        },
+    }
+}
+
+// A function's result, with its parameters behind.
+fn signature(alloc: Global, gives: u32, params: &[u32]) -> Result<Vec<u32>, AllocError>
+    ensures { IfOk result (λ types. types.items ≡ gives ∷ params.now) }
+{
+    let mut types = Vec::with_capacity(alloc, params.len())?;
+    types.push(gives)?;
+    types.extend_from_slice(params)?;
+    Ok(types)
+}
+
+fn put_kind<'t>(
+    alloc: Global,
+    rows: &mut Vec<Row<'t>>,
+    complete: &mut Vec<u32>,
+    kind: Kind,
+) -> Result<(), AllocError>
+    ensures rows { OnOk result (rows_of rows.new.items
+        ≡ rows_of rows.old.items ++ first_row (whole kind) (Some 1) ∷ []) }
+    ensures complete { OnOk result (complete.new.items
+        ≡ complete.old.items ++ kind_number kind ∷ []) }
+{
+    complete.push(kind.number())?;
+    rows.push(Row::new(alloc, Shape::Whole(kind), Some(1)))?;
+    Ok(())
+}
+
+fn put_void<'t>(alloc: Global, rows: &mut Vec<Row<'t>>) -> Result<(), AllocError>
+    ensures rows { OnOk result (rows_of rows.new.items
+        ≡ rows_of rows.old.items ++ first_row void None ∷ []) }
+{
+    rows.push(Row::new(alloc, Shape::Void, None))?;
+    Ok(())
+}

@@ -1,0 +1,2 @@
+-- what the code's types are in the definitions
+pub mod Views
