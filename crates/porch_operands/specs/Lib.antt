@@ -1,0 +1,4 @@
+-- what the code's operands are in the definitions
+pub mod Views
+-- how answers are said
+pub mod Answers

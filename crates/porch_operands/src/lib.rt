@@ -1,0 +1,17 @@
+//! The typing rules at one node of an expression: what its operands were found to be gives what the
+//! node is, or the rule that is broken there.
+//!
+//! The definitions are those of `porch_check`, and each call gives exactly what its definition gives.
+//! `operand` has what an expression was found to be, `table` what the rules ask of the types of the
+//! text. The rules decide over what can be copied: `kinds` has the common kinds, `agree` what becomes of
+//! an operand where a type is wanted, `operators` the operators between two operands.
+#![tactic(auto)]
+
+pub mod agree;
+pub mod kinds;
+pub mod operand;
+pub mod operators;
+pub mod table;
+
+pub use operand::{Becomes, Form, Library, Operation, Sort, Typed, Value};
+pub use table::{Class, Member, Table};
