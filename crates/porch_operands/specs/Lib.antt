@@ -2,3 +2,5 @@
 pub mod Views
 -- how answers are said
 pub mod Answers
+-- what nodes are made of
+pub mod Nodes

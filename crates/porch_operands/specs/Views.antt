@@ -1,6 +1,6 @@
 -- What the code's operands are in the definitions.
 use Rattle.std.specs.Prelude.{ℕ, ◌≡◌, List, [], ◌∷◌, fold}
-use Rattle.porch_typed.specs.Mirror.{Expression, conversion}
+use Rattle.porch_typed.specs.Mirror.{Expression, conversion, discard}
 use Rattle.porch_typed.specs.Views.{expression_of, place_of}
 use Rattle.porch_check.specs.Shapes.{Shape, void, whole, pointer, array, structure, function, Member}
 use Rattle.porch_check.specs.Scopes.{Library, of_printf, of_puts, of_putchar, of_malloc, of_calloc, of_free, of_checkpoint}
@@ -62,6 +62,7 @@ abbrev pub became : code_becomes.Becomes → Expression → Expression
 became becomes.Itself e = e
 became (becomes.Null n) e = null_as e n
 became (becomes.Converted kind) e = conversion kind e
+became becomes.Discarded e = discard e
 
 -- an operator with the tree to the right of it
 abbrev pub operation_with : Expression → code_operation.Operation → Operation

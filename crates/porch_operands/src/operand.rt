@@ -75,6 +75,8 @@ pub enum Becomes {
     Null(u32),
     /// It is converted to a kind.
     Converted(Kind),
+    /// Its value is dropped.
+    Discarded,
 }
 
 /// An operator with what its right operand becomes, and the value that it gives.
