@@ -78,7 +78,8 @@ pub fn sign_of(assigning: Assigning) -> Infix
 
 // An operator whose right operand stays as it is.
 fn plain(operator: Operator, value: Value) -> Operation
-    ensures { (b : Tree) → operation_with b result ≡ operators.operation operator b (as_value value) }
+    ensures { (b : Tree) →
+        operation_with b result ≡ operators.operation operator b (as_value value) }
 {
     Operation {
         operator,

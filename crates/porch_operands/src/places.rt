@@ -71,8 +71,8 @@ pub fn pointee<T: Table>(at: u32, value: Value, table: &T) -> Result<u32, Refusa
 pub fn index<T: Table>(at: u32, left: Value, right: Value, table: &T) -> Result<Element, Refusal>
     ensures { (x y : Typed) →
         index_form at (T.scopes table.now) x (as_value left) y (as_value right)
-        ≡ answered (λ e. place (pointee (row x.tree (with_step e.operator y.tree no_steps))) e.shape)
-        result }
+        ≡ answered (λ e. place
+        (pointee (row x.tree (with_step e.operator y.tree no_steps))) e.shape) result }
 {
     match (left, right) {
         (Value::Address { shape: n, to }, Value::Integer(_)) => {
@@ -197,7 +197,8 @@ pub fn member_of_value<T: Table>(
 }
 
 fn with_value(at: u32, member: Member, value: Value) -> Result<MemberValue, Refusal>
-    ensures { (s : Scopes) (e : Tree) (m : MemberOf) → m.shape ≡ member.shape → m.leaf ≡ member.leaf →
+    ensures { (s : Scopes) (e : Tree) (m : MemberOf) →
+        m.shape ≡ member.shape → m.leaf ≡ member.leaf →
         member_value at s e m (as_value value)
         ≡ answered (λ m. operand
         (typed_as (member_of m.member.shape m.member.leaf e) (as_value m.value))) result }

@@ -50,5 +50,6 @@ pub trait Table {
 
     /// The number of the pointer type to a type, which may be a new one.
     fn pointer_to(&mut self, to: u32) -> Result<u32, AllocError>
-        ensures { IfOk result (λ n. with_shape (pointer to) (scopes self.old) ≡ (n, scopes self.new)) };
+        ensures { IfOk result (λ n.
+            with_shape (pointer to) (scopes self.old) ≡ (n, scopes self.new)) };
 }
