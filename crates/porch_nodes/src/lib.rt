@@ -1,9 +1,10 @@
 //! Nodes of a typed expression: each call makes a node of its operands, or answers the rule that is
 //! broken there.
 //!
-//! What a node is decides `porch_operands`; `nodes` has those whose operands are values,
-//! and `trees` builds their trees.
+//! What a node is decides `porch_operands`. `nodes` has operators between two values, `unary` those in
+//! front of one, and `trees` builds the trees of rows.
 #![tactic(auto)]
 
 pub mod nodes;
 mod trees;
+pub mod unary;
