@@ -2,9 +2,10 @@
 //! broken there.
 //!
 //! What a node is decides `porch_operands`. `nodes` has operators between two values, `unary` those in
-//! front of one, and `trees` builds the trees of rows.
+//! front of one, `casts` casts, and `trees` builds the trees of rows.
 #![tactic(auto)]
 
+pub mod casts;
 pub mod nodes;
 mod trees;
 pub mod unary;

@@ -44,7 +44,7 @@ fn unary_tree(op: Unary, kind: Kind, e: Boxed<Expression>) -> Expression
 }
 
 /// A value that is neither the constant 0 nor an allocation.
-fn value_of(tree: Expression, value: Value) -> Typed
+pub(crate) fn value_of(tree: Expression, value: Value) -> Typed
     ensures { as_typed result ≡ typed_as (expression_of tree) (as_value value) }
 {
     Typed {
