@@ -135,7 +135,7 @@ fn add_step(
     }
 }
 
-fn new_row(
+pub(crate) fn new_row(
     alloc: Global,
     e: Expression,
     operator: Operator,
