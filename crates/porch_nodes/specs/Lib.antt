@@ -1,0 +1,4 @@
+-- what an answer that gives no node says
+pub mod Answers
+-- what only private contracts cite
+pub mod inside

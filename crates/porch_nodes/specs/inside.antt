@@ -1,0 +1,2 @@
+-- what stands at the head of a tree
+pub mod Heads
