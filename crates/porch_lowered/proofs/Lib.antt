@@ -1,0 +1,4 @@
+-- what is read of a store
+pub mod ReadAlike
+-- what changes it
+pub mod ChangeAlike
