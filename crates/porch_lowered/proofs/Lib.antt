@@ -2,3 +2,5 @@
 pub mod ReadAlike
 -- what changes it
 pub mod ChangeAlike
+-- nothing points to a temporary
+pub mod Grounded

@@ -36,13 +36,15 @@ IsGrounded declared indeterminate = ⊤
 abbrev pub HoldsGrounded : (declared : List ℕ) → Object → Type 0
 HoldsGrounded declared object = Each (λ v. IsGrounded declared v) object.leaves
 
--- a call that has as many variables as it declares, none of which points to a temporary
+-- a call that was made and has as many variables as it declares, none of which points to a temporary
 pub record IsFrame (declared : List ℕ) (a : Activation) : Type 0 where
+  pub made : a.number < length declared
   pub variables : length a.variables ≡ slice_index declared a.number
   pub values : Each (λ object. HoldsGrounded declared object) a.variables
 
 -- a store of the source
 pub record IsGroundedStore (declared : List ℕ) (s : Store) : Type 0 where
+  pub made : length declared ≡ s.called
   pub globals : Each (λ object. HoldsGrounded declared object) s.globals
   pub calls : Each (λ a. IsFrame declared a) s.calls
   pub blocks : Each (λ (b : HeapObject). HoldsGrounded declared b.object) s.blocks
