@@ -4,3 +4,9 @@ pub mod ReadAlike
 pub mod ChangeAlike
 -- nothing points to a temporary
 pub mod Grounded
+-- runs from a state
+pub mod Runs
+-- how a flat run follows an evaluation
+pub mod Follows
+-- temporaries, read and written
+pub mod Temporaries
