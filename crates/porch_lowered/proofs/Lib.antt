@@ -10,3 +10,7 @@ pub mod Runs
 pub mod Follows
 -- temporaries, read and written
 pub mod Temporaries
+-- states beside those of the source, and single commands
+pub mod States
+-- what it means that code follows an evaluation
+pub mod Codes
