@@ -33,22 +33,19 @@ module _ (flat : Flat) (under : Environment) (n function : ℕ) (into : Option �
     pub less : index < used ty
     pub number : first + i ≡ start ty + index
 
-  abbrev pub Keeps : InUse → List Object → List Object → Type 0
-  Keeps used before behind = (i : ℕ) → IsUsed used i → temporary behind i ≡ temporary before i
+  -- each of them but the one that a value goes to is as it was
+  abbrev pub Keeps : Option ℕ → InUse → List Object → List Object → Type 0
+  Keeps to used before behind = (i : ℕ) → IsUsed used i → (to ≡ Some (first + i) → ⊥) → temporary behind i ≡ temporary before i
 
   pub record IsReady (s : Progress) (ts : List Object) : Type 0 where
     pub grounded : IsGroundedStore declared s.store
     pub inside : IsInside call s.store
     pub temporaries : (ty index i : ℕ) → index < pools ty → first + i ≡ start ty + index → IsTemporary ts i
 
-  -- a variable of a type that is no temporary in use
-  pub record IsTarget (ty : ℕ) (used : InUse) (d : ℕ) : Type 0 where
-    pub is_of : (place : ℕ) → var_type flat (frame_at flat under n function into callers more place) d ≡ Some ty
-    pub is_free : (i : ℕ) → IsUsed used i → first + i ≡ d → ⊥
-
-  abbrev pub MayGo : (ty : ℕ) → Option ℕ → InUse → Type 0
-  MayGo ty None used = ⊤
-  MayGo ty (Some d) used = IsTarget ty used d
+  -- a value of a type may go to a variable of that type, or be dropped
+  abbrev pub MayGo : (ty : ℕ) → Option ℕ → Type 0
+  MayGo ty None = ⊤
+  MayGo ty (Some d) = (place : ℕ) → var_type flat (frame_at flat under n function into callers more place) d ≡ Some ty
 
   abbrev pub here : Progress → List Object → (place : ℕ) → State
   here s ts place = state_of flat under n function into callers more s ts place
@@ -63,19 +60,19 @@ module _ (flat : Flat) (under : Environment) (n function : ℕ) (into : Option �
     pub onward : GoesOn flat under n near before (arrived to v s temporaries place) s.marks
     pub ready : IsReady s temporaries
     pub grounded : IsGrounded declared v
-    pub kept : Keeps used from temporaries
+    pub kept : Keeps to used from temporaries
 
   -- The code follows the evaluation from each state: with temporaries in use that it keeps, and room for those that it takes.
   abbrev pub Codes : (ty : ℕ) → (value : Progress → Outcome) → Coder → Type 0
   Codes ty value coder =
-      (to : Option ℕ) (used : InUse) (label place : ℕ) (s : Progress) (ts : List Object) → IsReady s ts → MayGo ty to used
+      (to : Option ℕ) (used : InUse) (label place : ℕ) (s : Progress) (ts : List Object) → IsReady s ts → MayGo ty to
       → ((t : ℕ) → (coder to used label).most t ≤ pools t)
       → Stands (commands flat under n function into callers more) place (coder to used label).commands
       → Follows flat under n (value s) (here s ts place) s.marks
       (Arrives to used ts (here s ts place) s.marks (place + length (coder to used label).commands))
 
-  keeps_both : (used : InUse) (a b c : List Object) → Keeps used a b → Keeps used b c → Keeps used a c
-  keeps_both used a b c x y i u = y i u ∙ x i u
+  pub keeps_both : (to : Option ℕ) (used : InUse) (a b c : List Object) → Keeps None used a b → Keeps to used b c → Keeps to used a c
+  keeps_both to used a b c x y i u ne = y i u ne ∙ x i u (λ e. cc)
 
   -- a value that is dropped, and then what follows
   pub codes_then : (ty ty' : ℕ) (value : Progress → Outcome) (go : Value → Progress → Outcome) (coder coder' : Coder)
@@ -98,7 +95,7 @@ module _ (flat : Flat) (under : Environment) (n function : ℕ) (into : Option �
         onward = rw end (chain flat under n _ _ _ _ _ _ arrives.onward far.onward);
         ready = far.ready;
         grounded = far.grounded;
-        kept = keeps_both used ts arrives.temporaries far.temporaries arrives.kept far.kept;
+        kept = keeps_both to used ts arrives.temporaries far.temporaries arrives.kept far.kept;
       })
       (y v to used a.label middle s' arrives.temporaries arrives.ready may
       (λ t. at_most_right (a.most t) (b.most t) (pools t) (room t)) (back_stands all place a.commands b.commands stands)))

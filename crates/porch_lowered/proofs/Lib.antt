@@ -14,3 +14,5 @@ pub mod Temporaries
 pub mod States
 -- what it means that code follows an evaluation
 pub mod Codes
+-- values that are held in temporaries
+pub mod Holding

@@ -113,3 +113,23 @@ same_temporary ts i v x =
     ap (λ found. leaf_of (slice_get (changed_at (λ o. with_leaves o (slice_set o.leaves 0 v)) ts found i) i) 0) x.there
     ∙ ap (λ found. leaf_of found 0) (set_same ts i (with_leaves x.object (slice_set x.object.leaves 0 v)) (within ts i x.object x.there))
     ∙ ap (λ leaves. leaf_of (Some (with_leaves x.object (slice_set leaves 0 v))) 0) x.leaf
+
+-- temporaries stay so when one is written
+pub still_temporary : (ts : List Object) (i j : ℕ) (v : Value) → IsTemporary ts j → IsTemporary (with_temporary ts i v) j
+still_temporary ts i j v x =
+    elim (eqb_tells j i) [
+      | inl w ↦ (let e : i ≡ j = sym w.1 in rw e (record {
+        object = with_leaves x.object (slice_set x.object.leaves 0 v);
+        there =
+            ap (λ found. slice_get (changed_at (λ o. with_leaves o (slice_set o.leaves 0 v)) ts found j) j) x.there
+            ∙ set_same ts j (with_leaves x.object (slice_set x.object.leaves 0 v)) (within ts j x.object x.there);
+        value = v;
+        leaf = ap (λ leaves. slice_set leaves 0 v) x.leaf;
+      }))
+      | inr w ↦ record {
+        object = x.object;
+        there = changed_other (λ o. with_leaves o (slice_set o.leaves 0 v)) ts (slice_get ts i) i j w.1 ∙ x.there;
+        value = x.value;
+        leaf = x.leaf;
+      }
+    ]
