@@ -71,6 +71,15 @@ module _ (flat : Flat) (under : Environment) (n function : ℕ) (into : Option �
       → Follows flat under n (value s) (here s ts place) s.marks
       (Arrives to used ts (here s ts place) s.marks (place + length (coder to used label).commands))
 
+  -- the same where the value goes to a variable
+  abbrev pub Writes : (ty : ℕ) → (value : Progress → Outcome) → Coder → Type 0
+  Writes ty value coder =
+      (d : ℕ) (used : InUse) (label place : ℕ) (s : Progress) (ts : List Object) → IsReady s ts → MayGo ty (Some d)
+      → ((t : ℕ) → (coder (Some d) used label).most t ≤ pools t)
+      → Stands (commands flat under n function into callers more) place (coder (Some d) used label).commands
+      → Follows flat under n (value s) (here s ts place) s.marks
+      (Arrives (Some d) used ts (here s ts place) s.marks (place + length (coder (Some d) used label).commands))
+
   pub keeps_both : (to : Option ℕ) (used : InUse) (a b c : List Object) → Keeps None used a b → Keeps to used b c → Keeps to used a c
   keeps_both to used a b c x y i u ne = y i u ne ∙ x i u (λ e. cc)
 

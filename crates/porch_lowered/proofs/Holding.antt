@@ -16,7 +16,7 @@ use Rattle.porch_lowered.proofs.Runs.{GoesOn, stays}
 use Rattle.porch_lowered.proofs.Follows.{Follows, follows_from}
 use Rattle.porch_lowered.proofs.Temporaries.{IsInside, innermost_is, with_temporary, temporary, temporary_read, temporary_written, other_temporary, same_temporary, IsTemporary, still_temporary}
 use Rattle.porch_lowered.proofs.States.{Stands, frame_at, state_of, commands}
-use Rattle.porch_lowered.proofs.Codes.{IsUsed, Keeps, IsReady, here, arrived, Arrives, Codes, MayGo}
+use Rattle.porch_lowered.proofs.Codes.{IsUsed, Keeps, IsReady, here, arrived, Arrives, Codes, Writes, MayGo}
 
 module _ (flat : Flat) (under : Environment) (n function : ℕ) (into : Option ℕ) (callers : List Frame) (more : List (List Object))
     (declared : List ℕ) (call first : ℕ) (start pools : ℕ → ℕ) where
@@ -110,13 +110,13 @@ module _ (flat : Flat) (under : Environment) (n function : ℕ) (into : Option �
         ]
 
     pub codes_hold : (ty : ℕ) (value : Progress → Outcome) (coder : Coder)
-        → Codes flat under n function into callers more declared call first start pools ty value coder → Grows coder
+        → Writes flat under n function into callers more declared call first start pools ty value coder → Grows coder
         → (used : InUse) (label place : ℕ) (s : Progress) (ts : List Object) → Ready s ts
         → ((t : ℕ) → (coder (Some (next_of start ty used)) (and_one ty used) label).most t ≤ pools t)
         → Stands (commands flat under n function into callers more) place (coder (Some (next_of start ty used)) (and_one ty used) label).commands
         → Follows flat under n (value s) (at s ts place) s.marks
         (Holds used ts (at s ts place) s.marks (place + length (coder (Some (next_of start ty used)) (and_one ty used) label).commands) (next_of start ty used))
-    codes_hold ty value coder codes grows used label place s ts ready room stands =
+    codes_hold ty value coder writes grows used label place s ts ready room stands =
         let t = next_of start ty used in
         let a = coder (Some t) (and_one ty used) label in
         let end = place + length a.commands in
@@ -153,7 +153,22 @@ module _ (flat : Flat) (under : Environment) (n function : ℕ) (into : Option �
           number = number;
           holds = same_temporary x.temporaries i v (x.ready.temporaries ty (used ty) i inside (sym number));
         })
-        (codes (Some t) (and_one ty used) label place s ts ready (λ place. are.types ty (used ty) place inside) room stands)
+        (writes t (and_one ty used) label place s ts ready (λ place. are.types ty (used ty) place inside) room stands)
       where
         some_same : (a b : ℕ) → Some a ≡ Some b → a ≡ b
         some_same a b e = cc
+
+    -- Code that takes a temporary of its own for a value that is dropped, and writes to it.
+    pub codes_both : (ty : ℕ) (value : Progress → Outcome) (coder : Coder)
+        → Writes flat under n function into callers more declared call first start pools ty value coder → Grows coder
+        → ((used : InUse) (label : ℕ) → coder None used label ≡ coder (Some (next_of start ty used)) (and_one ty used) label)
+        → Codes flat under n function into callers more declared call first start pools ty value coder
+    codes_both ty value coder writes grows same (Some d) used label place s ts ready may room stands =
+        writes d used label place s ts ready may room stands
+    codes_both ty value coder writes grows same None used label place s ts ready may room stands =
+        let is = same used label in
+        rw is
+        (follows_from flat under n (value s) (at s ts place) (at s ts place) s.marks s.marks _ _ (stays flat under n (at s ts place) s.marks)
+        (λ v s' x.
+        record { temporaries = x.temporaries; onward = x.onward; ready = x.ready; grounded = x.grounded; kept = x.kept })
+        (codes_hold ty value coder writes grows used label place s ts ready (rw is at room) (rw is at stands)))

@@ -16,3 +16,5 @@ pub mod States
 pub mod Codes
 -- values that are held in temporaries
 pub mod Holding
+-- forms with one operand
+pub mod OneOperand
