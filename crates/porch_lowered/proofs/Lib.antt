@@ -18,3 +18,5 @@ pub mod Codes
 pub mod Holding
 -- forms with one operand
 pub mod OneOperand
+-- single forms
+pub mod Forms

@@ -16,9 +16,9 @@ use Rattle.porch_lowered.specs.Beside.{IsGrounded}
 use Rattle.porch_lowered.specs.Laws.{Gives}
 use Rattle.porch_lowered.proofs.Runs.{chain}
 use Rattle.porch_lowered.proofs.Follows.{Follows, follows_then, follows_result}
-use Rattle.porch_lowered.proofs.States.{front_stands, back_stands, frame_at, commands, IsQuiet, command_goes, command_meets}
-use Rattle.porch_lowered.proofs.Codes.{IsReady, here, Codes, Writes, MayGo}
-use Rattle.porch_lowered.proofs.Holding.{ArePools, Grows, temporary_value, codes_hold}
+use Rattle.porch_lowered.proofs.States.{Stands, front_stands, back_stands, frame_at, commands, IsQuiet, command_goes, command_meets}
+use Rattle.porch_lowered.proofs.Codes.{IsReady, here, Arrives, Codes, Writes, MayGo}
+use Rattle.porch_lowered.proofs.Holding.{ArePools, Grows, temporary_value, codes_hold, codes_both}
 
 module _ (flat : Flat) (under : Environment) (n function : ℕ) (into : Option ℕ) (callers : List Frame) (more : List (List Object))
     (declared : List ℕ) (call first : ℕ) (start pools : ℕ → ℕ)
@@ -45,18 +45,19 @@ module _ (flat : Flat) (under : Environment) (n function : ℕ) (into : Option �
       let x = hold None (next_of start ty used) ty value used label in then_commands x.code (command d (var_of x.operand) ∷ [])
 
   pub one_writes : (ty ty' : ℕ) (value : Progress → Outcome) (coder : Coder) (result : Store → Value → Result Value Act)
-      (command : (target operand : ℕ) → Command)
+      (command : (target operand : ℕ) → Command) (go : Value → Progress → Outcome)
+      → ((v : Value) (s : Progress) → go v s ≡ with_result (result s.store v) s (λ w s. Went w s))
       → Writes flat under n function into callers more declared call first start pools ty value coder
       → Grows flat under n function into callers more declared call first start pools coder → Makes ty' result command
       → (d : ℕ) (used : InUse) (label place : ℕ) (s : Progress) (ts : List Object)
       → IsReady flat under n function into callers more declared call first start pools s ts
       → MayGo flat under n function into callers more declared call first start pools ty' (Some d)
       → ((t : ℕ) → (one_code ty coder command d used label).most t ≤ pools t)
-      → Rattle.porch_lowered.proofs.States.Stands (commands flat under n function into callers more) place (one_code ty coder command d used label).commands
-      → Follows flat under n (and_then (value s) (λ v s. with_result (result s.store v) s (λ w s. Went w s))) (at s ts place) s.marks
-      (Rattle.porch_lowered.proofs.Codes.Arrives flat under n function into callers more declared call first start pools (Some d) used ts (at s ts place) s.marks
+      → Stands (commands flat under n function into callers more) place (one_code ty coder command d used label).commands
+      → Follows flat under n (and_then (value s) go) (at s ts place) s.marks
+      (Arrives flat under n function into callers more declared call first start pools (Some d) used ts (at s ts place) s.marks
       (place + length (one_code ty coder command d used label).commands))
-  one_writes ty ty' value coder result command writes grows makes d used label place s ts ready may room stands =
+  one_writes ty ty' value coder result command go go_is writes grows makes d used label place s ts ready may room stands =
       let t = next_of start ty used in
       let a = coder (Some t) (and_one ty used) label in
       let all = commands flat under n function into callers more in
@@ -64,13 +65,14 @@ module _ (flat : Flat) (under : Environment) (n function : ℕ) (into : Option �
       let middle = place + length a.commands in
       let last = back_stands all place a.commands (c ∷ []) stands in
       let end : place + length (a.commands ++ c ∷ []) ≡ middle + 1 = simp length-append (omega arith) in
-      follows_then flat under n (value s) _ (at s ts place) s.marks _ _
+      follows_then flat under n (value s) go (at s ts place) s.marks _ _
       (codes_hold flat under n function into callers more declared call first start pools are ty value coder writes grows used label place s ts ready room
       (front_stands all place a.commands (c ∷ []) stands))
       (λ v s' h.
       let value_is = temporary_value flat under n function into callers more declared call first start pools are s' h.temporaries middle h.index t v h.ready h.number h.holds h.grounded in
       let effect = makes.does_is middle d t s' h.temporaries v h.ready may h.grounded value_is in
-      follows_result flat under n (result s'.store v) s' _ (at s ts place) s.marks _
+      rw (go_is v s')
+      (follows_result flat under n (result s'.store v) s' _ (at s ts place) s.marks _
       (λ w e.
       record {
         temporaries = h.temporaries;
@@ -92,4 +94,22 @@ module _ (flat : Flat) (under : Environment) (n function : ℕ) (into : Option �
             (effect ∙ ap (λ r. if_ok r (λ w. Goes (put d w (at s' h.temporaries (middle + 1))))) e));
         output = refl;
         turns = refl;
-      }))
+      })))
+
+  -- also where the value is dropped
+  pub one_codes : (ty ty' : ℕ) (value : Progress → Outcome) (coder : Coder) (result : Store → Value → Result Value Act)
+      (command : (target operand : ℕ) → Command) (go : Value → Progress → Outcome)
+      → ((v : Value) (s : Progress) → go v s ≡ with_result (result s.store v) s (λ w s. Went w s))
+      → Writes flat under n function into callers more declared call first start pools ty value coder
+      → Grows flat under n function into callers more declared call first start pools coder → Makes ty' result command
+      → (whole : Coder) → Grows flat under n function into callers more declared call first start pools whole
+      → ((d : ℕ) (used : InUse) (label : ℕ) → whole (Some d) used label ≡ one_code ty coder command d used label)
+      → ((used : InUse) (label : ℕ) → whole None used label ≡ whole (Some (next_of start ty' used)) (and_one ty' used) label)
+      → Codes flat under n function into callers more declared call first start pools ty' (λ s. and_then (value s) go) whole
+  one_codes ty ty' value coder result command go go_is writes grows makes whole grown is same =
+      codes_both flat under n function into callers more declared call first start pools are ty' (λ s. and_then (value s) go) whole
+      (λ d used label place s ts ready may room stands.
+      (let e = is d used label in
+      rw e
+      (one_writes ty ty' value coder result command go go_is writes grows makes d used label place s ts ready may (rw e at room) (rw e at stands))))
+      grown same
