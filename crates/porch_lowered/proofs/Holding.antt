@@ -102,7 +102,7 @@ module _ (flat : Flat) (under : Environment) (n function : ℕ) (into : Option �
     used_before ty used i u =
         record { ty = u.ty; index = u.index; less = one_more ty used u.ty u.index u.less; number = u.number }
 
-    one_is_used : (ty : ℕ) (used : InUse) → used ty < and_one ty used ty
+    pub one_is_used : (ty : ℕ) (used : InUse) → used ty < and_one ty used ty
     one_is_used ty used =
         elim (eqb_tells ty ty) [
           | inl w ↦ rw w.0 (let l : used ty < used ty + 1 = omega arith in l)

@@ -20,3 +20,5 @@ pub mod Holding
 pub mod OneOperand
 -- single forms
 pub mod Forms
+-- forms with two operands
+pub mod TwoOperands
