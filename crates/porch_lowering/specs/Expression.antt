@@ -28,23 +28,25 @@ moved_to (Some d) o = command.Move d o ∷ []
 
 -- Whether the code of an expression writes the variable that its value goes to in its last command alone, with a value
 -- that is there. Then it may be a variable of the source.
-abbrev mutual
-  pub writes_last : Expression → Bool
-  writes_last (tree.all_of e es) = false
-  writes_last (tree.any_of e es) = false
-  writes_last (tree.choice ty e a b) = false
-  writes_last (tree.call function es) = false
-  writes_last (tree.address ty place) = place_writes_last place
-  writes_last (tree.sequence e es) = last_writes_last es (writes_last e)
-  writes_last e = true
+module _ (p : Program) where
+  abbrev mutual
+    pub writes_last : Expression → Bool
+    writes_last (tree.all_of e es) = false
+    writes_last (tree.any_of e es) = false
+    writes_last (tree.choice ty e a b) = false
+    writes_last (tree.call function es) = false
+    writes_last (tree.address ty place) = place_writes_last place
+    writes_last (tree.sequence e es) = last_writes_last es (writes_last e)
+    writes_last (tree.conversion kind e) = not (nat_eq (type_held p e) (kind_number kind)) || writes_last e
+    writes_last e = true
 
-  pub place_writes_last : Place → Bool
-  place_writes_last (tree.pointee e) = writes_last e
-  place_writes_last place = true
+    pub place_writes_last : Place → Bool
+    place_writes_last (tree.pointee e) = writes_last e
+    place_writes_last place = true
 
-  pub last_writes_last : Expressions → Bool → Bool
-  last_writes_last tree.no_expressions writes = writes
-  last_writes_last (tree.with_expression e es) writes = last_writes_last es (writes_last e)
+    pub last_writes_last : Expressions → Bool → Bool
+    last_writes_last tree.no_expressions writes = writes
+    last_writes_last (tree.with_expression e es) writes = last_writes_last es (writes_last e)
 
 -- whether the operand of the first operator stands where it is
 abbrev pub begins_in_place : Steps → Bool
@@ -209,13 +211,20 @@ module _ (p : Program) (start : ℕ → ℕ) where
   place_type (tree.pointee e) ty = type_held p e
   place_type place ty = pointer_to p ty
 
-  -- A constant goes to where it is asked for, or a variable's value is converted.
-  abbrev pub convert_to : (kind : ℕ) → (constant : Option ℤ) → (ty : ℕ) → (in_place : Option Operand) → Coder → Coder
-  convert_to kind (Some z) ty in_place value to used label = plain (moved_to to (Constant z)) used label
-  convert_to kind None ty in_place value to used label =
-      let d = target to kind used in
+  -- a value that needs no conversion is used where it may be missing
+  abbrev pub converted_already : (lacks : Bool) → (kind : ℕ) → Coder → Coder
+  converted_already true kind value to used label =
+      let d = target to kind used in then_commands (value (Some d) (with_target to kind used) label) (used_commands (Var d))
+  converted_already false kind value to used label = value to used label
+
+  -- A constant goes to where it is asked for, a value of the kind as it is, and any other is converted.
+  abbrev pub convert_to : (kind : ℕ) → (constant : Option ℤ) → (ty : ℕ) → (lacks : Bool) → (in_place : Option Operand) → Coder → Coder
+  convert_to kind (Some z) ty lacks in_place value to used label = plain (moved_to to (Constant z)) used label
+  convert_to kind None ty lacks in_place value to used label =
+      if nat_eq ty kind then converted_already lacks kind value to used label
+      else (let d = target to kind used in
       let x = hold_value in_place ty value (with_target to kind used) label in
-      then_commands x.code (command.Cast d (var_of x.operand) ∷ [])
+      then_commands x.code (command.Cast d (var_of x.operand) ∷ []))
 
   -- a member of a struct: a struct again is its place, and all else is read
   abbrev pub member_code : Option Ty → (ty : ℕ) → (leaf : ℕ) → (struct_ty : ℕ) → Coder → Coder
@@ -400,7 +409,7 @@ module _ (p : Program) (start : ℕ → ℕ) where
     code (tree.assign ty place e) to used label =
         assign_by_shape (slice_get p.types ty) (variable_of place)
         (copy_struct (pointer_to p ty) (place_code place None) (code e))
-        (assign_variable ty (unwrap_or (variable_of place) 0) (writes_last e) (code e))
+        (assign_variable ty (unwrap_or (variable_of place) 0) (writes_last p e) (code e))
         (assign_place ty (pointer_in place) (place_type place ty) (place_code place None) (atom_of (λ z. true) e) (code e))
         to used label
     code (tree.assign_by ty op place e) to used label =
@@ -416,7 +425,7 @@ module _ (p : Program) (start : ℕ → ℕ) where
         (λ to used label. no_code used label) before)
         to used label
     code (tree.conversion kind e) to used label =
-        convert_to (kind_number kind) (constant_of (tree.conversion kind e)) (type_held p e) (atom_of no_constant e) (code e) to used label
+        convert_to (kind_number kind) (constant_of (tree.conversion kind e)) (type_held p e) (may_lack e) (atom_of no_constant e) (code e) to used label
     code (tree.discard e) to used label = code e None used label
     code (tree.member_of ty leaf e) to used label = member_code (slice_get p.types ty) ty leaf (type_held p e) (code e) to used label
     code (tree.call function es) to used label =

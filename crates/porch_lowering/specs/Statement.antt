@@ -97,7 +97,7 @@ module _ (p : Program) (start : ℕ → ℕ) (variables : List ℕ) (is_main : B
 
   abbrev pub begin_shape : Option Ty → (variable ty : ℕ) → Expression → (label : ℕ) → Code
   begin_shape (Some (Struct members)) v ty e label = begin_struct v ty e label
-  begin_shape shape v ty e label = assign_variable p start ty v (writes_last e) (code p start e) None none_in_use label
+  begin_shape shape v ty e label = assign_variable p start ty v (writes_last p e) (code p start e) None none_in_use label
 
   -- what a variable begins with, when it has no value
   abbrev pub begin_code : (variable : ℕ) → Initial → (label : ℕ) → Code

@@ -1,6 +1,6 @@
 -- What is known of an expression before it becomes code: its type, whether it may come out without a value, and whether it is
 -- a constant or a variable, which commands take as an operand where it stands.
-use Rattle.std.specs.Prelude.{ℕ, ℤ, pos, Bool, true, false, ◌||◌, slice_get, slice_index, if◌then◌else◌, Option, Some, None}
+use Rattle.std.specs.Prelude.{ℕ, ℤ, pos, nat_eq, Bool, true, false, ◌||◌, slice_get, slice_index, if◌then◌else◌, Option, Some, None}
 use Rattle.porch_types.specs.declared.shapes.Kind.{Kind}
 use Rattle.porch_types.specs.declared.shapes.Kind.TheVariants.{Int, Long}
 use Rattle.porch_types.specs.declared.shapes.Ty.{Ty}
@@ -125,8 +125,15 @@ abbrev pub variable_of : Place → Option ℕ
 variable_of (tree.variable v) = Some v
 variable_of place = None
 
+-- the variable of a type that is read
+abbrev pub variable_read_as : (ty : ℕ) → Expression → Option ℕ
+variable_read_as ty (tree.read own place) = if nat_eq own ty then variable_of place else None
+variable_read_as ty e = None
+
+-- also where a conversion leaves its type as it is
 abbrev pub variable_read : Expression → Option ℕ
 variable_read (tree.read ty place) = variable_of place
+variable_read (tree.conversion kind e) = variable_read_as (kind_number kind) e
 variable_read e = None
 
 -- which constants may stand as an operand

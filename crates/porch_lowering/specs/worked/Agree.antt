@@ -13,7 +13,8 @@ use Rattle.porch_abstract.specs.whole.Machine.{begin}
 use Rattle.porch_abstract.specs.whole.Run.{run_to, marks_to}
 use Rattle.porch_typed.specs.Mirror.{Function, Program}
 use Rattle.porch_mean.specs.Mean.{mean}
-use Rattle.porch_mean.specs.worked.Write.{both, types}
+use Rattle.porch_mean.specs.worked.Whole.{list_types, whole_program}
+use Rattle.porch_mean.specs.worked.Write.{both, types, narrow, wide}
 use Rattle.porch_lowering.specs.Lowering.{flat_of}
 
 -- the pointer types that the types of these programs lack, from number 21 on
@@ -36,6 +37,18 @@ with_main (f ∷ functions) = record f { name = codes "main" } ∷ functions
 abbrev pub completed : Program → Program
 completed p =
     record { types = types ++ further_types; pointers = pointers; globals = p.globals; functions = with_main p.functions; main = p.main }
+
+-- the whole program of porch_mean, with a list of types of its own
+abbrev pub whole : Program
+whole =
+    record {
+      types =
+          list_types ++ Pointer 0 ∷ Pointer 1 ∷ Pointer 2 ∷ Pointer 3 ∷ Pointer 4 ∷ Pointer 5 ∷ Pointer 7 ∷ Pointer 8 ∷ Pointer 9 ∷ Pointer 11 ∷ [];
+      pointers = 12 ∷ 13 ∷ 14 ∷ 15 ∷ 16 ∷ 17 ∷ 11 ∷ 18 ∷ 19 ∷ 20 ∷ 9 ∷ 21 ∷ [];
+      globals = whole_program.globals;
+      functions = with_main whole_program.functions;
+      main = whole_program.main;
+    }
 
 -- enough steps for each of these programs
 abbrev pub STEPS : ℕ
@@ -64,3 +77,7 @@ Agrees p n = KeepsRules p × MeansTheSame p both n
 abbrev pub AllAgree : (n : ℕ) → List Program → Type 0
 AllAgree n [] = ⊤
 AllAgree n (p ∷ programs) = Agrees (completed p) n × AllAgree n programs
+
+-- under each width of long, and under both at once
+abbrev pub AgreesInEach : Program → (n : ℕ) → Type 0
+AgreesInEach p n = KeepsRules p × MeansTheSame p both n × MeansTheSame p narrow n × MeansTheSame p wide n

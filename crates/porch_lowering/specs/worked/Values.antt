@@ -8,7 +8,7 @@ use Rattle.porch_typed.specs.declared.typed.Operator.TheVariants as operator
 use Rattle.porch_typed.specs.declared.typed.Unary.TheVariants.{Plus, Minus, Complement}
 use Rattle.porch_typed.specs.Mirror.{Expression, Statement, Steps, Place, Program}
 use Rattle.porch_typed.specs.Mirror as tree
-use Rattle.porch_mean.specs.worked.Write.{INT, LONG, ULONG, int, long, local, join, combine, call, comma, expressions, evaluate, set, give, function_of, program}
+use Rattle.porch_mean.specs.worked.Write.{INT, LONG, ULONG, int, long, local, join, combine, call, comma, expressions, evaluate, set, give, function_of, program, declare, function}
 
 -- int main(void){ .. } with an int, a char, a long, an unsigned long and an unsigned int
 abbrev pub main_with : List Statement → Program
@@ -146,6 +146,23 @@ reads_first =
 -- -1 + 1ul is Narrow, INT_MAX + 1 Overflow, 1 / 0 Divide, 1 << 32 Shift, and a variable without a value Indeterminate
 abbrev pub narrow_sum : Expression
 narrow_sum = join (minus 0) (operator.Arithmetic Div ULong) (tree.constant ULong (pos 0))
+
+-- a = (int)(a + 1); where nothing is converted; and the same of a value that is missing, which is used and not dropped
+abbrev pub as_int : Expression → Expression
+as_int e = tree.conversion Int e
+
+abbrev pub same_kinds : Program
+same_kinds = main_with (set 0 (as_int (int 4)) ∷ set 0 (as_int (combine Add (local 0) (as_int (local 0)))) ∷ set 5 (as_int (local 0)) ∷ give (as_int (local 5)) ∷ [])
+
+-- int f(void){} and a statement of main, which has an int
+abbrev pub with_missing : Statement → Program
+with_missing a = program [] (INT ∷ []) (a ∷ []) (function 0 [] [] ∷ [])
+
+abbrev pub missing_values : List Program
+missing_values =
+    with_missing (evaluate (as_int (call 1 []))) ∷ with_missing (set 0 (as_int (call 1 []))) ∷ with_missing (set 0 (call 1 []))
+    ∷ with_missing (declare 0 (tree.choice (Some INT) (int 1) (as_int (call 1 [])) (int 2)))
+    ∷ with_missing (give (as_int (comma (int 1) (call 1 [])))) ∷ []
 
 abbrev pub value_programs : List Program
 value_programs =
