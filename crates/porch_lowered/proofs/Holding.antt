@@ -16,6 +16,7 @@ use Rattle.porch_lowered.proofs.Runs.{GoesOn, stays}
 use Rattle.porch_lowered.proofs.Follows.{Follows, follows_from}
 use Rattle.porch_lowered.proofs.Temporaries.{IsInside, innermost_is, with_temporary, temporary, temporary_read, temporary_written, other_temporary, same_temporary, IsTemporary, still_temporary}
 use Rattle.porch_lowered.proofs.States.{Stands, frame_at, state_of, commands}
+use Rattle.porch_lowered.proofs.Growing.{Grows}
 use Rattle.porch_lowered.proofs.Codes.{IsUsed, Keeps, IsReady, here, arrived, Arrives, Codes, Writes, MayGo}
 
 module _ (flat : Flat) (under : Environment) (n function : ℕ) (into : Option ℕ) (callers : List Frame) (more : List (List Object))
@@ -27,10 +28,6 @@ module _ (flat : Flat) (under : Environment) (n function : ℕ) (into : Option �
     pub apart : (ty ty' k k' : ℕ) → k < pools ty → k' < pools ty' → start ty + k ≡ start ty' + k' → (ty ≡ ty') × (k ≡ k')
     pub types : (ty k place : ℕ) → k < pools ty
         → var_type flat (frame_at flat under n function into callers more place) (start ty + k) ≡ Some ty
-
-  -- where the code of a value takes as many temporaries as were in use
-  abbrev pub Grows : Coder → Type 0
-  Grows coder = (to : Option ℕ) (used : InUse) (label t : ℕ) → used t ≤ (coder to used label).most t
 
   abbrev Ready : Progress → List Object → Type 0
   Ready = IsReady flat under n function into callers more declared call first start pools

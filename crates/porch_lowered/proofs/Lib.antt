@@ -12,6 +12,8 @@ pub mod Follows
 pub mod Temporaries
 -- states beside those of the source, and single commands
 pub mod States
+-- code takes the temporaries that were in use
+pub mod Growing
 -- what it means that code follows an evaluation
 pub mod Codes
 -- values that are held in temporaries

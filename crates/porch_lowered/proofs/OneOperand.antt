@@ -17,8 +17,9 @@ use Rattle.porch_lowered.specs.Laws.{Gives}
 use Rattle.porch_lowered.proofs.Runs.{chain}
 use Rattle.porch_lowered.proofs.Follows.{Follows, follows_then, follows_result}
 use Rattle.porch_lowered.proofs.States.{Stands, front_stands, back_stands, frame_at, commands, IsQuiet, command_goes, command_meets}
+use Rattle.porch_lowered.proofs.Growing.{Grows}
 use Rattle.porch_lowered.proofs.Codes.{IsReady, here, Arrives, Codes, Writes, MayGo}
-use Rattle.porch_lowered.proofs.Holding.{ArePools, Grows, temporary_value, codes_hold, codes_both}
+use Rattle.porch_lowered.proofs.Holding.{ArePools, temporary_value, codes_hold, codes_both}
 
 module _ (flat : Flat) (under : Environment) (n function : ℕ) (into : Option ℕ) (callers : List Frame) (more : List (List Object))
     (declared : List ℕ) (call first : ℕ) (start pools : ℕ → ℕ)
@@ -48,7 +49,7 @@ module _ (flat : Flat) (under : Environment) (n function : ℕ) (into : Option �
       (command : (target operand : ℕ) → Command) (go : Value → Progress → Outcome)
       → ((v : Value) (s : Progress) → go v s ≡ with_result (result s.store v) s (λ w s. Went w s))
       → Writes flat under n function into callers more declared call first start pools ty value coder
-      → Grows flat under n function into callers more declared call first start pools coder → Makes ty' result command
+      → Grows coder → Makes ty' result command
       → (d : ℕ) (used : InUse) (label place : ℕ) (s : Progress) (ts : List Object)
       → IsReady flat under n function into callers more declared call first start pools s ts
       → MayGo flat under n function into callers more declared call first start pools ty' (Some d)
@@ -101,8 +102,8 @@ module _ (flat : Flat) (under : Environment) (n function : ℕ) (into : Option �
       (command : (target operand : ℕ) → Command) (go : Value → Progress → Outcome)
       → ((v : Value) (s : Progress) → go v s ≡ with_result (result s.store v) s (λ w s. Went w s))
       → Writes flat under n function into callers more declared call first start pools ty value coder
-      → Grows flat under n function into callers more declared call first start pools coder → Makes ty' result command
-      → (whole : Coder) → Grows flat under n function into callers more declared call first start pools whole
+      → Grows coder → Makes ty' result command
+      → (whole : Coder) → Grows whole
       → ((d : ℕ) (used : InUse) (label : ℕ) → whole (Some d) used label ≡ one_code ty coder command d used label)
       → ((used : InUse) (label : ℕ) → whole None used label ≡ whole (Some (next_of start ty' used)) (and_one ty' used) label)
       → Codes flat under n function into callers more declared call first start pools ty' (λ s. and_then (value s) go) whole

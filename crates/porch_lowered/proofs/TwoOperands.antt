@@ -17,8 +17,9 @@ use Rattle.porch_lowered.specs.Laws.{Gives}
 use Rattle.porch_lowered.proofs.Runs.{GoesOn, chain, stays}
 use Rattle.porch_lowered.proofs.Follows.{Follows, follows_then, follows_from, follows_result}
 use Rattle.porch_lowered.proofs.States.{Stands, front_stands, back_stands, frame_at, commands, IsQuiet, command_goes, command_meets}
+use Rattle.porch_lowered.proofs.Growing.{Grows}
 use Rattle.porch_lowered.proofs.Codes.{IsReady, here, Arrives, Writes, MayGo, IsUsed}
-use Rattle.porch_lowered.proofs.Holding.{ArePools, Grows, Holds, temporary_value, codes_hold, used_before, one_is_used}
+use Rattle.porch_lowered.proofs.Holding.{ArePools, Holds, temporary_value, codes_hold, used_before, one_is_used}
 
 at_most_left : (a b c : ℕ) → max a b ≤ c → a ≤ c
 at_most_left a b c h = omega (arith, h)
@@ -57,9 +58,9 @@ module _ (flat : Flat) (under : Environment) (n function : ℕ) (into : Option �
       (go : Value → Value → Progress → Outcome)
       → ((a b : Value) (s : Progress) → go a b s ≡ with_result (result s.store a b) s (λ w s. Went w s))
       → Writes flat under n function into callers more declared call first start pools ty value left
-      → Grows flat under n function into callers more declared call first start pools left
+      → Grows left
       → Writes flat under n function into callers more declared call first start pools ty' value' right
-      → Grows flat under n function into callers more declared call first start pools right
+      → Grows right
       → MakesOfTwo ty'' result command
       → (d : ℕ) (used : InUse) (label place : ℕ) (s : Progress) (ts : List Object)
       → IsReady flat under n function into callers more declared call first start pools s ts
