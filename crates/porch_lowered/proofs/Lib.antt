@@ -24,3 +24,5 @@ pub mod OneOperand
 pub mod Forms
 -- forms with two operands
 pub mod TwoOperands
+-- jumps, turns and checkpoints
+pub mod Control

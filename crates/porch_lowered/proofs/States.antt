@@ -96,13 +96,16 @@ module _ (flat : Flat) (under : Environment) (n function : ℕ) (into : Option �
   effect c place x = does flat under (frame_at place) callers (form_of c) (going place x)
 
   module _ (c : Command) (place : ℕ) (x : State) (h : slice_get commands place ≡ Some c) where
-    next_is : next flat under (going place x) ≡ effect c place x
+    pub next_is : next flat under (going place x) ≡ effect c place x
     next_is = ap (λ found. after flat under (frame_at place) callers found (going place x)) h
 
-    not_paused : counts_turn (form_of c) ≡ false → is_paused flat under n (going place x) ≡ false
-    not_paused calm = ap (λ found. counts found && nat_le n x.turns) h ∙ ap (λ b. b && nat_le n x.turns) calm
+    pub pauses_where : is_paused flat under n (going place x) ≡ (counts_turn (form_of c) && nat_le n x.turns)
+    pauses_where = ap (λ found. counts found && nat_le n x.turns) h
 
-    marks_are : marks_in flat (going place x) (running (frame_at place) callers) (slice_get commands place)
+    not_paused : counts_turn (form_of c) ≡ false → is_paused flat under n (going place x) ≡ false
+    not_paused calm = pauses_where ∙ ap (λ b. b && nat_le n x.turns) calm
+
+    pub marks_are : marks_in flat (going place x) (running (frame_at place) callers) (slice_get commands place)
         ≡ marks_at flat (going place x) (frame_at place) (form_of c)
     marks_are = ap (λ found. marks_in flat (going place x) (running (frame_at place) callers) found) h
 
