@@ -26,3 +26,5 @@ pub mod Forms
 pub mod TwoOperands
 -- jumps, turns and checkpoints
 pub mod Control
+-- pointers to variables and globals
+pub mod Places

@@ -21,7 +21,7 @@ changed_behind : (change : Object → Object) (xs ys : List Object) (found : Opt
 changed_behind change xs ys None i j h = refl
 changed_behind change xs ys (Some o) i j h = set_behind xs ys i j (change o) h
 
-same_number : (k : ℕ) → nat_eq k k ≡ true
+pub same_number : (k : ℕ) → nat_eq k k ≡ true
 same_number k =
     elim (eqb_tells k k) [
       | inl w ↦ w.0
