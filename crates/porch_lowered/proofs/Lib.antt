@@ -28,3 +28,5 @@ pub mod TwoOperands
 pub mod Control
 -- pointers to variables and globals
 pub mod Places
+-- conditions
+pub mod Branches
