@@ -48,6 +48,15 @@ module _ (flat : Flat) (under : Environment) (n : ℕ) where
   follows_then (Undefined a s) go here before first second x k = x
   follows_then (Stopped s) go here before first second x k = x
 
+  -- the same, where it is known what the first came to
+  pub follows_then_is : (o : Outcome) (go : Value → Progress → Outcome) (here : State) (before : List Mark) (first second : Value → Progress → Type 0)
+      → Follows o here before first → ((v : Value) (s : Progress) → o ≡ Went v s → first v s → Follows (go v s) here before second)
+      → Follows (and_then o go) here before second
+  follows_then_is (Went v s) go here before first second x k = k v s refl x
+  follows_then_is (Left how s) go here before first second x k = x
+  follows_then_is (Undefined a s) go here before first second x k = x
+  follows_then_is (Stopped s) go here before first second x k = x
+
   -- one of two ways
   pub follows_either : (b : Bool) (go went : Progress → Outcome) (s : Progress) (here : State) (before : List Mark) (arrives : Value → Progress → Type 0)
       → (b ≡ true → Follows (go s) here before arrives) → (b ≡ false → Follows (went s) here before arrives)

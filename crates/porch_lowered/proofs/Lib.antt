@@ -30,3 +30,5 @@ pub mod Control
 pub mod Places
 -- conditions
 pub mod Branches
+-- `?:`
+pub mod Choices
