@@ -1,27 +1,21 @@
 -- A condition that is held in an int, what follows where it holds and where it doesn't, and `?:`.
-use Rattle.std.proofs.Common.{◌≡◌, ◌≤◌, ℕ, ℤ, ◌+◌, List, [], ◌∷◌, ◌++◌, length, max, refl, sym, ap, subst, ◌∙◌, arith, length-append, Bool, true, false, Option, Some, None}
+use Rattle.std.proofs.Common.{◌≡◌, ℕ, ℤ, ◌+◌, List, length, refl, ap, subst, ◌∙◌, Bool, true, false, Option, Some}
 use Rattle.std.specs.Prelude.{⊤, pos, not, slice_get, unwrap_or, if◌then◌else◌}
 use Rattle.std.specs.Ordering.{int_eq}
 use Rattle.porch_values.specs.declared.acts.Act.TheVariants.{Indeterminate}
-use Rattle.porch_objects.specs.Store.{Value, number, null, pointer, past, indeterminate, Object, Store, seen}
+use Rattle.porch_objects.specs.Store.{Value, number, null, pointer, past, indeterminate, Object}
 use Rattle.porch_objects.specs.Meaning.{Environment, Mark, Progress, Met}
 use Rattle.porch_flat.specs.declared.flat.Operand.TheVariants.{Var}
 use Rattle.porch_flat.specs.declared.whole.Command.{Command}
 use Rattle.porch_flat.specs.declared.whole.Command.TheVariants as command
 use Rattle.porch_flat.specs.declared.whole.Flat.{Flat}
 use Rattle.porch_flat.specs.whole.Places.{place_of_label}
-use Rattle.porch_abstract.specs.Machine.{Frame, State, Next, Goes, Meets, counted, put}
+use Rattle.porch_abstract.specs.Machine.{Frame, State, Next, Goes, counted}
 use Rattle.porch_abstract.specs.whole.Machine.{variable_of}
-use Rattle.porch_mean.specs.Outcome.{Outcome, Went, Left, Undefined, Stopped, and_then, either, with_truth, use_truth}
-use Rattle.porch_lowering.specs.Code.{InUse, and_one, at_most, Code, Coder}
-use Rattle.porch_lowering.specs.Operators.{next_of}
-use Rattle.porch_lowering.specs.Values.{INT}
-use Rattle.porch_lowered.proofs.Runs.{RunsTo, GoesOn, chain}
-use Rattle.porch_lowered.proofs.Follows.{EndsIn, Follows, follows_from}
-use Rattle.porch_lowered.proofs.States.{Stands, front_stands, back_stands, frame_at, going, commands, command_goes, command_meets}
-use Rattle.porch_lowered.proofs.Growing.{Grows}
-use Rattle.porch_lowered.proofs.Codes.{IsReady, here, arrived, Arrives, Codes, Writes, MayGo, keeps_both}
-use Rattle.porch_lowered.proofs.Holding.{ArePools, Holds, temporary_value, codes_hold}
+use Rattle.porch_mean.specs.Outcome.{Outcome, either, with_truth}
+use Rattle.porch_lowered.proofs.Runs.{RunsTo, GoesOn}
+use Rattle.porch_lowered.proofs.Follows.{Follows}
+use Rattle.porch_lowered.proofs.States.{going, commands, command_goes, command_meets}
 
 -- an int, or a value that is missing
 abbrev pub IsInt : Value → Type 0

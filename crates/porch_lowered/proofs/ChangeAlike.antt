@@ -1,11 +1,11 @@
 -- What changes a store changes the one with temporaries beside it alike.
-use Rattle.std.proofs.Common.{◌≡◌, ◌<◌, ℕ, zero, suc, ◌+◌, ◌-◌, ℤ, pos, List, [], ◌∷◌, ◌++◌, length, refl, sym, ap, ◌∙◌, inl, inr, arith, Option, Some, None}
+use Rattle.std.proofs.Common.{◌≡◌, ◌<◌, ℕ, zero, suc, ℤ, pos, List, [], ◌∷◌, ◌++◌, length, refl, ap, ◌∙◌, inl, inr, arith, Option, Some, None}
 use Rattle.std.proofs.lemmas.Bool.Decides.{eqb_tells}
 use Rattle.std.specs.Prelude.{slice_get, slice_set, slice_index, replicate, if◌then◌else◌, ◌||◌, int_lt, Bool, true, false, Result, Ok, Err}
 use Rattle.porch_types.specs.declared.shapes.Ty.{Ty}
 use Rattle.porch_values.specs.declared.acts.Act.{Act}
 use Rattle.porch_values.specs.declared.acts.Act.TheVariants as act
-use Rattle.porch_objects.specs.Store.{Home, of_global, of_call, of_block, Value, number, null, pointer, past, indeterminate, Root, Object, Activation, Store, with_calls, changed_at, changed_calls, changed, object_at, seen, with_leaves, with_leaf_at, forgotten, left}
+use Rattle.porch_objects.specs.Store.{Home, of_global, of_call, of_block, Value, number, null, pointer, past, indeterminate, Object, Activation, Store, with_calls, changed_at, changed_calls, changed, object_at, seen, with_leaves, left}
 use Rattle.porch_objects.specs.Pointers.{if_there, used, if_place, leaves_from, spliced, store, copy, Allocation, allocate, MOST_COUNT, release_at, release}
 use Rattle.porch_lowered.specs.Beside.{Each, with_temporaries, beside, IsDeclared, IsGrounded, IsFrame, IsGroundedStore}
 use Rattle.porch_lowered.specs.Laws.{store_beside, allocation_beside, ChangesAlike}
@@ -35,8 +35,8 @@ module _ (declared : List ℕ) where
   in_calls change (a ∷ calls) (t ∷ ts) c v h lt =
       elim (eqb_tells a.number c) [
         | inl w ↦ (let same = ap (λ k. slice_index declared k) w.1 in let count = h.0.variables in
-        let within : v < length a.variables = omega (arith, lt, same, count) in
-        rw (w.0, front a.variables t v within, changed_front change a.variables t (slice_get a.variables v) v within) refl)
+            let within : v < length a.variables = omega (arith, lt, same, count) in
+            rw (w.0, front a.variables t v within, changed_front change a.variables t (slice_get a.variables v) v within) refl)
         | inr w ↦ rw w.0 (ap (λ more. (let b : Activation = record { number = a.number; variables = a.variables ++ t } in b) ∷ more) (in_calls change calls ts c v h.1 lt))
       ]
 

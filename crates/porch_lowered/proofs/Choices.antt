@@ -1,22 +1,22 @@
 -- `?:`, whose condition is held in an int.
-use Rattle.std.proofs.Common.{◌≡◌, ◌≤◌, ℕ, ◌+◌, List, [], ◌∷◌, ◌++◌, length, max, refl, sym, ap, ◌∙◌, arith, length-append, Option, Some, None}
+use Rattle.std.proofs.Common.{◌≡◌, ◌≤◌, ℕ, ◌+◌, List, [], ◌∷◌, ◌++◌, length, max, refl, arith, length-append, Option, Some, None}
 use Rattle.std.specs.Prelude.{slice_get}
 use Rattle.porch_objects.specs.Store.{Value, Object, seen}
-use Rattle.porch_objects.specs.Meaning.{Environment, Mark, Progress}
+use Rattle.porch_objects.specs.Meaning.{Environment, Progress}
 use Rattle.porch_flat.specs.declared.flat.Operand.TheVariants.{Var}
 use Rattle.porch_flat.specs.declared.whole.Command.{Command}
 use Rattle.porch_flat.specs.declared.whole.Command.TheVariants as command
 use Rattle.porch_flat.specs.declared.whole.Flat.{Flat}
 use Rattle.porch_abstract.specs.Machine.{Frame, State}
 use Rattle.porch_mean.specs.Outcome.{Outcome, Went, and_then, either, use_truth}
-use Rattle.porch_lowering.specs.Code.{InUse, and_one, Code, then_code, then_commands, Coder}
+use Rattle.porch_lowering.specs.Code.{and_one, then_code, then_commands, Coder}
 use Rattle.porch_lowering.specs.Operators.{next_of}
 use Rattle.porch_lowering.specs.Values.{INT}
 use Rattle.porch_lowered.proofs.Runs.{GoesOn, chain}
-use Rattle.porch_lowered.proofs.Follows.{Follows, follows_from, follows_then_is}
-use Rattle.porch_lowered.proofs.States.{Stands, front_stands, back_stands, commands}
+use Rattle.porch_lowered.proofs.Follows.{follows_from, follows_then_is}
+use Rattle.porch_lowered.proofs.States.{front_stands, back_stands, commands}
 use Rattle.porch_lowered.proofs.Growing.{Grows}
-use Rattle.porch_lowered.proofs.Codes.{IsReady, here, arrived, Arrives, Codes, Writes, keeps_both}
+use Rattle.porch_lowered.proofs.Codes.{here, arrived, Arrives, Codes, Writes, keeps_both}
 use Rattle.porch_lowered.proofs.Holding.{ArePools, temporary_value, codes_hold}
 use Rattle.porch_lowered.proofs.Branches.{IsInt, AreHomes, jump_from, label_from, branch_follows}
 

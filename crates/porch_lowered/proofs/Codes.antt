@@ -1,17 +1,15 @@
 -- What it means that code follows an evaluation, and how the code of parts follows one after another.
-use Rattle.std.proofs.Common.{◌≡◌, ◌<◌, ◌≤◌, ℕ, zero, suc, ◌+◌, List, [], ◌∷◌, ◌++◌, length, refl, sym, ap, ◌∙◌, arith, length-append, max, Option, Some, None}
+use Rattle.std.proofs.Common.{◌≡◌, ◌<◌, ◌≤◌, ℕ, ◌+◌, List, ◌++◌, length, ◌∙◌, arith, length-append, max, Option, Some, None}
 use Rattle.std.specs.Prelude.{⊤}
-use Rattle.porch_values.specs.declared.acts.Act.{Act}
-use Rattle.porch_objects.specs.Store.{Value, Object, Store}
+use Rattle.porch_objects.specs.Store.{Value, Object}
 use Rattle.porch_objects.specs.Meaning.{Environment, Mark, Progress}
-use Rattle.porch_flat.specs.declared.whole.Command.{Command}
 use Rattle.porch_flat.specs.declared.whole.Flat.{Flat}
 use Rattle.porch_abstract.specs.Machine.{Frame, State, put}
 use Rattle.porch_abstract.specs.whole.Machine.{var_type}
-use Rattle.porch_mean.specs.Outcome.{Outcome, Went, Left, Undefined, Stopped, and_then}
-use Rattle.porch_lowering.specs.Code.{InUse, at_most, Code, no_code, then_code, Coder}
+use Rattle.porch_mean.specs.Outcome.{Outcome, and_then}
+use Rattle.porch_lowering.specs.Code.{InUse, then_code, Coder}
 use Rattle.porch_lowered.specs.Beside.{IsGrounded, IsGroundedStore}
-use Rattle.porch_lowered.proofs.Runs.{GoesOn, chain, stays}
+use Rattle.porch_lowered.proofs.Runs.{GoesOn, chain}
 use Rattle.porch_lowered.proofs.Follows.{Follows, follows_from, follows_then}
 use Rattle.porch_lowered.proofs.Temporaries.{IsInside, IsTemporary, temporary}
 use Rattle.porch_lowered.proofs.States.{Stands, front_stands, back_stands, frame_at, state_of, commands}

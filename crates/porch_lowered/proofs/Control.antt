@@ -1,8 +1,8 @@
 -- Commands that go on elsewhere, count a turn, or change the state and make no value.
-use Rattle.std.proofs.Common.{◌≡◌, ℕ, ◌+◌, List, [], ◌∷◌, ◌++◌, length, refl, sym, ap, ◌∙◌, Bool, true, false, Option, Some, None}
+use Rattle.std.proofs.Common.{◌≡◌, ℕ, ◌+◌, List, ◌∷◌, length, refl, ap, ◌∙◌, Option, Some}
 use Rattle.std.specs.Prelude.{slice_get, unwrap_or, nat_le, replicate}
-use Rattle.porch_objects.specs.Store.{of_call, Value, indeterminate, Object, Store, with_leaves, forgotten, variable_home, reached_one}
-use Rattle.porch_objects.specs.Meaning.{Environment, Mark, reached, Progress, with_store, with_turn, Paused}
+use Rattle.porch_objects.specs.Store.{of_call, Value, indeterminate, Object, Store, with_leaves, forgotten}
+use Rattle.porch_objects.specs.Meaning.{Environment, Progress, with_store, with_turn}
 use Rattle.porch_flat.specs.declared.whole.Command.{Command}
 use Rattle.porch_flat.specs.declared.whole.Command.TheVariants as command
 use Rattle.porch_flat.specs.declared.whole.Flat.{Flat}
@@ -13,9 +13,9 @@ use Rattle.porch_mean.specs.Expression.{reach_checkpoint}
 use Rattle.porch_lowered.specs.Beside.{beside, IsDeclared, IsGroundedStore}
 use Rattle.porch_lowered.proofs.ChangeAlike.{changed_alike}
 use Rattle.porch_lowered.proofs.Runs.{GoesOn, step_goes, step_quietly, step_pauses}
-use Rattle.porch_lowered.proofs.Follows.{EndsIn, Follows, follows_either, follows_from}
+use Rattle.porch_lowered.proofs.Follows.{Follows, follows_either, follows_from}
 use Rattle.porch_lowered.proofs.Temporaries.{IsInside, innermost_is}
-use Rattle.porch_lowered.proofs.States.{frame_at, going, state_of, commands, command_goes, next_is, pauses_where, marks_are}
+use Rattle.porch_lowered.proofs.States.{frame_at, state_of, commands, command_goes, next_is, pauses_where, marks_are}
 
 module _ (flat : Flat) (under : Environment) (n function : ℕ) (into : Option ℕ) (callers : List Frame) (more : List (List Object))
     (s : Progress) (ts : List Object) (place : ℕ) where
@@ -61,9 +61,9 @@ module _ (flat : Flat) (under : Environment) (n function : ℕ) (into : Option �
   checkpoint_goes h =
       let there = state_of flat under n function into callers more (reach_checkpoint s) ts (place + 1) in
       let goes =
-          step_goes flat under n (at place) there s.marks
-          (pauses_where flat under n function into callers more command.Checkpoint place (at place) h)
-          (next_is flat under n function into callers more command.Checkpoint place (at place) h) in
+      step_goes flat under n (at place) there s.marks
+      (pauses_where flat under n function into callers more command.Checkpoint place (at place) h)
+      (next_is flat under n function into callers more command.Checkpoint place (at place) h) in
       rw (marks_are flat under n function into callers more command.Checkpoint place (at place) h) at goes
 
   -- TURN counts a turn, or the run is paused before it

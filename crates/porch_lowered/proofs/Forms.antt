@@ -1,37 +1,33 @@
 -- Single forms: each follows its evaluation where its parts do.
-use Rattle.std.proofs.Common.{◌≡◌, ◌≤◌, ℕ, ℤ, zero, suc, ◌+◌, List, [], ◌∷◌, ◌++◌, length, refl, sym, ap, subst, ◌∙◌, arith, length-append, le_refl, max, Bool, true, false, Option, Some, None}
-use Rattle.std.specs.Prelude.{⊤, slice_get, is_some, ◌&&◌, if◌then◌else◌, Result, Ok, Err}
+use Rattle.std.proofs.Common.{◌≡◌, ◌≤◌, ℕ, ℤ, ◌+◌, List, [], ◌∷◌, length, refl, ap, ◌∙◌, arith, Bool, true, false, Option, Some, None}
+use Rattle.std.specs.Prelude.{slice_get, is_some, ◌&&◌, if◌then◌else◌, Result, Ok, Err}
 use Rattle.porch_types.specs.declared.shapes.Kind.{Kind}
 use Rattle.porch_types.specs.declared.shapes.Ty.TheVariants.{Whole}
 use Rattle.porch_types.specs.Kinds.{kind_number}
 use Rattle.porch_values.specs.declared.acts.Act.{Act}
-use Rattle.porch_values.specs.declared.acts.Act.TheVariants.{Indeterminate}
 use Rattle.porch_values.specs.Integers.{converted}
 use Rattle.porch_objects.specs.Store.{Value, number, null, pointer, past, indeterminate, Object, Store, is_good, object_at, seen}
 use Rattle.porch_objects.specs.Pointers.{if_there, if_number, if_place, load, member}
 use Rattle.porch_objects.specs.Meaning.{Environment, Progress}
 use Rattle.porch_flat.specs.declared.flat.Operand.TheVariants.{Constant}
-use Rattle.porch_flat.specs.declared.whole.Command.{Command}
 use Rattle.porch_flat.specs.declared.whole.Command.TheVariants as command
 use Rattle.porch_flat.specs.declared.whole.Flat.{Flat}
-use Rattle.porch_flat.specs.whole.Form.{form_of}
 use Rattle.porch_flat.specs.whole.Places.{type_at}
 use Rattle.porch_abstract.specs.Machine.{Frame, State, Next, Goes, Meets, put, counted, resulted}
-use Rattle.porch_abstract.specs.whole.Machine.{if_ok, does, becomes, constant_of, kind_in, var_type}
+use Rattle.porch_abstract.specs.whole.Machine.{if_ok, becomes, constant_of, kind_in}
 use Rattle.porch_flat.specs.Parts.{kind_of}
-use Rattle.porch_mean.specs.Outcome.{Outcome, Went, Left, Undefined, Stopped, and_then, with_result, with_number, use_number, done}
+use Rattle.porch_mean.specs.Outcome.{Outcome, Went, and_then, with_result, with_number, done}
 use Rattle.porch_mean.specs.Operators.{as_value}
-use Rattle.porch_mean.specs.Expression.{load_at, member_at}
-use Rattle.porch_lowering.specs.Code.{InUse, Code, plain, Coder}
+use Rattle.porch_lowering.specs.Code.{InUse, plain, Coder}
 use Rattle.porch_lowering.specs.Expression.{moved_to}
 use Rattle.porch_lowered.specs.Beside.{beside, IsGrounded}
 use Rattle.porch_lowered.specs.Laws.{Gives}
 use Rattle.porch_lowered.proofs.ReadAlike.{load_alike, member_alike, seen_grounded}
 use Rattle.porch_lowered.proofs.Grounded.{stay}
 use Rattle.porch_lowered.proofs.Runs.{stays}
-use Rattle.porch_lowered.proofs.Follows.{Follows, follows_from, follows_then}
-use Rattle.porch_lowered.proofs.States.{Stands, IsThere, frame_at, state_of, commands, IsQuiet, command_goes}
-use Rattle.porch_lowered.proofs.Codes.{IsReady, here, Arrives, Codes, MayGo}
+use Rattle.porch_lowered.proofs.Follows.{Follows, follows_then}
+use Rattle.porch_lowered.proofs.States.{Stands, IsThere, frame_at, commands, command_goes}
+use Rattle.porch_lowered.proofs.Codes.{IsReady, here, Arrives, Codes}
 use Rattle.porch_lowered.proofs.Holding.{ArePools}
 use Rattle.porch_lowered.proofs.OneOperand.{Makes}
 

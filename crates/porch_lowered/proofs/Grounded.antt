@@ -1,7 +1,7 @@
 -- No operation makes a pointer to a temporary.
-use Rattle.std.proofs.Common.{◌≡◌, ◌<◌, ◌≤◌, ℕ, zero, suc, ◌+◌, ◌-◌, ◌*◌, ◌/◌, ◌+ℤ◌, ℤ, pos, negsuc, List, [], ◌∷◌, ◌++◌, length, take, drop, map, refl, sym, ap, subst, ◌∙◌, inl, inr, arith, length-append, Option, Some, None}
+use Rattle.std.proofs.Common.{◌≡◌, ◌<◌, ℕ, zero, suc, ◌+◌, ◌-◌, ◌*◌, ◌/◌, ◌+ℤ◌, ℤ, pos, negsuc, List, [], ◌∷◌, ◌++◌, length, take, drop, map, refl, sym, ap, subst, ◌∙◌, inl, inr, arith, length-append, Option, Some, None}
 use Rattle.std.proofs.lemmas.Bool.Decides.{eqb_tells}
-use Rattle.std.specs.Prelude.{⊤, slice_get, slice_set, slice_index, replicate, if◌then◌else◌, ◌||◌, ◌&&◌, is_some, nat_lt, nat_eq, int_lt, Bool, true, false, Result, Ok, Err, unsigned_abs}
+use Rattle.std.specs.Prelude.{slice_get, slice_set, slice_index, replicate, if◌then◌else◌, ◌||◌, nat_lt, nat_eq, int_lt, Bool, true, false, Result, Ok, Err}
 use Rattle.std.specs.Option.{option_map}
 use Rattle.std.specs.List.{range_with_len}
 use Rattle.porch_types.specs.declared.parts.Row.{Row}
@@ -11,8 +11,8 @@ use Rattle.porch_types.specs.Leaves.{leaves_of}
 use Rattle.porch_types.specs.LeafTypes.{leaf_type}
 use Rattle.porch_values.specs.declared.acts.Act.{Act}
 use Rattle.porch_values.specs.declared.acts.Act.TheVariants as act
-use Rattle.porch_objects.specs.Store.{Home, of_global, of_call, of_block, Value, number, null, pointer, past, indeterminate, Root, Object, Activation, HeapObject, Store, leaves_in, fresh, zero_of, zeroed, changed_at, changed_calls, changed_blocks, changed, object_at, seen, leaf_at, with_leaves, forgotten, entered, left, reached_one, with_calls}
-use Rattle.porch_objects.specs.Pointers.{if_there, used, if_place, load, member, Position, row_in, position_at, position_of, is_shared, element_from, step_from, step, leaves_from, spliced, store, copy, Allocation, block_of, with_block, allocate, MOST_COUNT, without_block, release_at, release}
+use Rattle.porch_objects.specs.Store.{Home, of_global, of_call, of_block, Value, number, null, pointer, past, indeterminate, Root, Object, Activation, HeapObject, Store, leaves_in, zero_of, changed_at, changed_calls, changed_blocks, changed, object_at, seen, leaf_at, with_leaves, forgotten, entered, left, with_calls}
+use Rattle.porch_objects.specs.Pointers.{if_there, if_place, load, member, Position, row_in, position_of, is_shared, element_from, step_from, step, leaves_from, spliced, store, copy, Allocation, block_of, allocate, MOST_COUNT, without_block, release_at, release}
 use Rattle.porch_lowered.specs.Beside.{Each, IsDeclared, IsGrounded, HoldsGrounded, IsFrame, IsGroundedStore}
 use Rattle.porch_lowered.specs.Laws.{Gives, StaysGrounded}
 use Rattle.porch_lowered.proofs.ReadAlike.{OnSome, object_holds, leaf_grounded, seen_grounded}
@@ -138,11 +138,14 @@ module _ (declared : List ℕ) where
   calls_hold change keeps [] c v h = tt
   calls_hold change keeps (a ∷ calls) c v h =
       elim (eqb_tells a.number c) [
-        | inl w ↦ rw w.0 (record {
-          made = h.0.made;
-          variables = length-changed change a.variables (slice_get a.variables v) v ∙ h.0.variables;
-          values = at_holds change keeps a.variables (slice_get a.variables v) v h.0.values (found_in Holds a.variables v h.0.values);
-        }, h.1)
+        | inl w ↦ rw w.0 (
+          record {
+            made = h.0.made;
+            variables = length-changed change a.variables (slice_get a.variables v) v ∙ h.0.variables;
+            values = at_holds change keeps a.variables (slice_get a.variables v) v h.0.values (found_in Holds a.variables v h.0.values);
+          },
+          h.1,
+        )
         | inr w ↦ rw w.0 (h.0, calls_hold change keeps calls c v h.1)
       ]
 
@@ -267,13 +270,15 @@ module _ (declared : List ℕ) where
 
     allocate_gives : (types : List Ty) (ty : ℕ) (zeros : Bool) (count : ℤ) → Gives IsMade (allocate types ty zeros count s)
     allocate_gives types ty zeros count =
-        where_made (int_lt count (pos 1) || int_lt (pos MOST_COUNT) count) _
-        (tt, record {
-          made = h.made;
-          globals = h.globals;
-          calls = h.calls;
-          blocks = each_append (λ (x : HeapObject). Holds x.object) s.blocks _ h.blocks (block_holds types zeros _, tt);
-        })
+        where_made (int_lt count (pos 1) || int_lt (pos MOST_COUNT) count) _ (
+          tt,
+          record {
+            made = h.made;
+            globals = h.globals;
+            calls = h.calls;
+            blocks = each_append (λ (x : HeapObject). Holds x.object) s.blocks _ h.blocks (block_holds types zeros _, tt);
+          },
+        )
 
     entered_grounded : (variables : List Object) → Each Holds variables → IsGroundedStore (declared ++ length variables ∷ []) (entered s variables)
     entered_grounded variables k =
@@ -283,11 +288,14 @@ module _ (declared : List ℕ) where
         record {
           made = omega (arith, longer, made);
           globals = objects_more declared more s.globals h.globals;
-          calls = (record {
-            made = omega (arith, longer, made);
-            variables = sym (index_last declared (length variables)) ∙ ap (λ c. slice_index (declared ++ more) c) h.made;
-            values = objects_more declared more variables k;
-          }, each_other (λ a. IsFrame declared a) (λ a. IsFrame (declared ++ more) a) s.calls (λ a f. frame_more declared more a f) h.calls);
+          calls = (
+            record {
+              made = omega (arith, longer, made);
+              variables = sym (index_last declared (length variables)) ∙ ap (λ c. slice_index (declared ++ more) c) h.made;
+              values = objects_more declared more variables k;
+            },
+            each_other (λ a. IsFrame declared a) (λ a. IsFrame (declared ++ more) a) s.calls (λ a f. frame_more declared more a f) h.calls,
+          );
           blocks = each_other (λ (x : HeapObject). Holds x.object) (λ (x : HeapObject). HoldsGrounded (declared ++ more) x.object) s.blocks (λ x f. holds_more declared more x.object f) h.blocks;
         }
 

@@ -1,7 +1,7 @@
 -- The code of each expression takes at least the temporaries that were in use before it.
-use Rattle.std.proofs.Common.{◌≡◌, ◌≤◌, ℕ, ℤ, ◌+◌, List, [], ◌∷◌, ◌++◌, max, refl, arith, inl, inr, Bool, true, false, Option, Some, None}
+use Rattle.std.proofs.Common.{◌≤◌, ℕ, ℤ, ◌+◌, [], ◌∷◌, max, arith, inl, inr, Bool, true, false, Option, Some, None}
 use Rattle.std.proofs.lemmas.Bool.Decides.{eqb_tells}
-use Rattle.std.specs.Prelude.{nat_eq, not, is_some, if◌then◌else◌, slice_get, unwrap_or, pos}
+use Rattle.std.specs.Prelude.{nat_eq, if◌then◌else◌, slice_get, unwrap_or, pos}
 use Rattle.porch_types.specs.declared.shapes.Ty.{Ty}
 use Rattle.porch_types.specs.declared.shapes.Ty.TheVariants.{Whole, Pointer, Array, Struct}
 use Rattle.porch_flat.specs.declared.flat.Operand.{Operand}

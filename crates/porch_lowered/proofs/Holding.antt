@@ -1,23 +1,23 @@
 -- A value that goes to a temporary is held there.
-use Rattle.std.proofs.Common.{◌≡◌, ◌<◌, ◌≤◌, ◌≢◌, ℕ, zero, suc, ◌+◌, ◌-◌, List, [], ◌∷◌, ◌++◌, length, refl, sym, ap, subst, ◌∙◌, arith, inl, inr, Option, Some, None}
+use Rattle.std.proofs.Common.{◌≡◌, ◌<◌, ◌≤◌, ◌≢◌, ℕ, ◌+◌, ◌-◌, List, ◌∷◌, length, refl, sym, ap, ◌∙◌, arith, inl, inr, Option, Some, None}
 use Rattle.std.proofs.lemmas.Bool.Decides.{eqb_tells}
-use Rattle.std.specs.Prelude.{slice_index, slice_get}
-use Rattle.porch_objects.specs.Store.{of_call, Value, Object, Activation, Store, seen, leaf_at, with_leaf_at, variable_home, innermost}
+use Rattle.std.specs.Prelude.{slice_index}
+use Rattle.porch_objects.specs.Store.{of_call, Value, Object, seen, leaf_at, with_leaf_at}
 use Rattle.porch_objects.specs.Meaning.{Environment, Mark, Progress}
 use Rattle.porch_flat.specs.declared.whole.Flat.{Flat}
 use Rattle.porch_abstract.specs.Machine.{Frame, State, running, put}
 use Rattle.porch_abstract.specs.whole.Machine.{var_type, variable_of}
-use Rattle.porch_mean.specs.Outcome.{Outcome, Went, Left, Undefined, Stopped}
-use Rattle.porch_lowering.specs.Code.{InUse, and_one, Code, Coder}
+use Rattle.porch_mean.specs.Outcome.{Outcome}
+use Rattle.porch_lowering.specs.Code.{InUse, and_one, Coder}
 use Rattle.porch_lowering.specs.Operators.{next_of}
-use Rattle.porch_lowered.specs.Beside.{Each, beside, IsDeclared, IsGrounded, IsFrame, IsGroundedStore}
+use Rattle.porch_lowered.specs.Beside.{beside, IsGrounded, IsGroundedStore}
 use Rattle.porch_lowered.proofs.ReadAlike.{seen_alike}
 use Rattle.porch_lowered.proofs.Runs.{GoesOn, stays}
 use Rattle.porch_lowered.proofs.Follows.{Follows, follows_from}
-use Rattle.porch_lowered.proofs.Temporaries.{IsInside, innermost_is, with_temporary, temporary, temporary_read, temporary_written, other_temporary, same_temporary, IsTemporary, still_temporary}
-use Rattle.porch_lowered.proofs.States.{Stands, frame_at, state_of, commands}
+use Rattle.porch_lowered.proofs.Temporaries.{IsInside, innermost_is, with_temporary, temporary, temporary_read, temporary_written, other_temporary, same_temporary, still_temporary}
+use Rattle.porch_lowered.proofs.States.{Stands, frame_at, commands}
 use Rattle.porch_lowered.proofs.Growing.{Grows}
-use Rattle.porch_lowered.proofs.Codes.{IsUsed, Keeps, IsReady, here, arrived, Arrives, Codes, Writes, MayGo}
+use Rattle.porch_lowered.proofs.Codes.{IsUsed, Keeps, IsReady, here, Codes, Writes}
 
 module _ (flat : Flat) (under : Environment) (n function : ℕ) (into : Option ℕ) (callers : List Frame) (more : List (List Object))
     (declared : List ℕ) (call first : ℕ) (start pools : ℕ → ℕ) where
@@ -50,9 +50,9 @@ module _ (flat : Flat) (under : Environment) (n function : ℕ) (into : Option �
         let count = variables_count s ready.inside ready.grounded in
         let place_is : t ≡ length ready.inside.variables + i = omega (arith, e, count) in
         let written =
-            ap (λ k. with_leaf_at (beside s.store (ts ∷ more)) (of_call k t) 0 v) (innermost_is call s.store ready.inside (ts ∷ more))
-            ∙ ap (λ k. with_leaf_at (beside s.store (ts ∷ more)) (of_call call k) 0 v) place_is
-            ∙ temporary_written call s.store ready.inside ts more i v in
+        ap (λ k. with_leaf_at (beside s.store (ts ∷ more)) (of_call k t) 0 v) (innermost_is call s.store ready.inside (ts ∷ more))
+        ∙ ap (λ k. with_leaf_at (beside s.store (ts ∷ more)) (of_call call k) 0 v) place_is
+        ∙ temporary_written call s.store ready.inside ts more i v in
         ap
         (λ store.
         let x : State = record { phase = running (frame_at flat under n function into callers more place) callers; store = store; output = s.output; turns = s.turns; taken = s.taken } in x)

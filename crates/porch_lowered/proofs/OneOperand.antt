@@ -1,13 +1,13 @@
 -- Forms with one operand, which is held in a temporary, and one command that makes the value of it.
-use Rattle.std.proofs.Common.{◌≡◌, ◌≤◌, ℕ, suc, ◌+◌, List, [], ◌∷◌, ◌++◌, length, refl, sym, ap, subst, ◌∙◌, arith, length-append, Option, Some, None}
-use Rattle.std.specs.Prelude.{Result, Ok, Err}
+use Rattle.std.proofs.Common.{◌≡◌, ◌≤◌, ℕ, ◌+◌, List, [], ◌∷◌, ◌++◌, length, refl, ap, subst, ◌∙◌, arith, length-append, Option, Some, None}
+use Rattle.std.specs.Prelude.{Result}
 use Rattle.porch_values.specs.declared.acts.Act.{Act}
 use Rattle.porch_objects.specs.Store.{Value, Object, Store, seen}
 use Rattle.porch_objects.specs.Meaning.{Environment, Progress}
 use Rattle.porch_flat.specs.declared.whole.Command.{Command}
 use Rattle.porch_flat.specs.declared.whole.Flat.{Flat}
 use Rattle.porch_flat.specs.whole.Form.{form_of}
-use Rattle.porch_abstract.specs.Machine.{Frame, State, Next, Goes, Meets, put}
+use Rattle.porch_abstract.specs.Machine.{Frame, State, Goes, put}
 use Rattle.porch_abstract.specs.whole.Machine.{if_ok, does, variable_of}
 use Rattle.porch_mean.specs.Outcome.{Outcome, Went, and_then, with_result}
 use Rattle.porch_lowering.specs.Code.{InUse, and_one, Code, then_commands, Coder, hold}

@@ -1,24 +1,23 @@
 -- Pointers to variables and globals, and to the subobjects in them.
-use Rattle.std.proofs.Common.{◌≡◌, ◌<◌, ℕ, zero, suc, ◌+◌, List, [], ◌∷◌, ◌++◌, length, refl, sym, ap, ◌∙◌, arith, Option, Some, None}
-use Rattle.std.specs.Prelude.{slice_get, slice_index, is_some, unwrap_or, if◌then◌else◌, Result, Ok, Err}
+use Rattle.std.proofs.Common.{◌≡◌, ◌<◌, ℕ, zero, suc, ◌+◌, List, [], ◌∷◌, length, refl, ap, ◌∙◌, arith, Option, Some}
+use Rattle.std.specs.Prelude.{slice_get, is_some, unwrap_or, if◌then◌else◌, Result, Ok}
 use Rattle.porch_values.specs.declared.acts.Act.{Act}
-use Rattle.porch_objects.specs.Store.{Home, of_global, of_call, Value, pointer, indeterminate, Object, Activation, Store, variables_in, object_at}
+use Rattle.porch_objects.specs.Store.{Home, of_global, of_call, Value, pointer, indeterminate, Object, Store, variables_in, object_at}
 use Rattle.porch_objects.specs.Pointers.{if_there, if_place, member}
 use Rattle.porch_objects.specs.Meaning.{Environment, Progress}
 use Rattle.porch_flat.specs.declared.whole.Command.{Command}
 use Rattle.porch_flat.specs.declared.whole.Command.TheVariants as command
 use Rattle.porch_flat.specs.declared.whole.Flat.{Flat}
 use Rattle.porch_flat.specs.whole.Form.{form_of}
-use Rattle.porch_abstract.specs.Machine.{Frame, State, Next, Goes, put}
+use Rattle.porch_abstract.specs.Machine.{Frame, State, Goes, put}
 use Rattle.porch_abstract.specs.whole.Machine.{does}
-use Rattle.porch_mean.specs.Outcome.{Outcome, Went, and_then, with_result}
+use Rattle.porch_mean.specs.Outcome.{Went, and_then}
 use Rattle.porch_mean.specs.Expression.{member_at}
-use Rattle.porch_lowering.specs.Code.{InUse, Code, plain, Coder}
-use Rattle.porch_lowered.specs.Beside.{Each, beside, IsDeclared, IsGrounded, IsFrame, IsGroundedStore}
-use Rattle.porch_lowered.proofs.Follows.{Follows}
+use Rattle.porch_lowering.specs.Code.{plain, Coder}
+use Rattle.porch_lowered.specs.Beside.{IsDeclared, IsGroundedStore}
 use Rattle.porch_lowered.proofs.Temporaries.{IsInside, innermost_is, same_number}
-use Rattle.porch_lowered.proofs.States.{Stands, frame_at, commands, IsQuiet, command_goes}
-use Rattle.porch_lowered.proofs.Codes.{IsReady, here, Arrives, Writes, MayGo}
+use Rattle.porch_lowered.proofs.States.{frame_at, IsQuiet, command_goes}
+use Rattle.porch_lowered.proofs.Codes.{IsReady, here, Writes}
 
 -- an element that is there
 get_within : (xs : List Object) (i : ℕ) → i < length xs → (o : Object) × (slice_get xs i ≡ Some o)

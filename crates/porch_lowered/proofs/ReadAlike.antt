@@ -1,5 +1,5 @@
 -- What is read of a store is read of the one with temporaries beside it.
-use Rattle.std.proofs.Common.{◌≡◌, ◌<◌, ℕ, zero, suc, ◌+◌, ◌-◌, ◌*◌, ◌/◌, ◌+ℤ◌, ℤ, pos, negsuc, List, [], ◌∷◌, ◌++◌, length, refl, sym, ap, ◌∙◌, inl, inr, arith, Option, Some, None}
+use Rattle.std.proofs.Common.{◌≡◌, ◌<◌, ℕ, zero, suc, ◌+◌, ◌-◌, ◌*◌, ◌/◌, ◌+ℤ◌, ℤ, pos, negsuc, List, [], ◌∷◌, ◌++◌, length, refl, ap, ◌∙◌, inl, inr, arith, Option, Some, None}
 use Rattle.std.proofs.lemmas.Bool.Decides.{eqb_tells}
 use Rattle.std.specs.Prelude.{⊤, slice_get, slice_index, slice_index_or, is_some, if◌then◌else◌, ◌&&◌, nat_eq, nat_lt, Bool, true, false, Result, Ok, Err}
 use Rattle.std.specs.Option.{option_map}
@@ -10,7 +10,7 @@ use Rattle.porch_values.specs.declared.acts.Act.{Act}
 use Rattle.porch_values.specs.declared.acts.Act.TheVariants as act
 use Rattle.porch_objects.specs.Store.{Home, of_global, of_call, of_block, Value, number, null, pointer, past, indeterminate, Object, Activation, HeapObject, Store, variables_in, block_in, object_at, is_good, seen, leaf_of, leaf_at}
 use Rattle.porch_objects.specs.Meaning.{byte_of}
-use Rattle.porch_objects.specs.Pointers.{if_there, used, if_number, if_place, load, member, Position, row_in, position_at, position_of, is_shared, element, element_from, step_from, step, between, difference, equal, equality, with_byte, text_from, text_in, text}
+use Rattle.porch_objects.specs.Pointers.{if_there, used, if_number, if_place, load, member, Position, row_in, position_at, position_of, is_shared, element_from, step_from, step, difference, equality, with_byte, text_from, text_in, text}
 use Rattle.porch_lowered.specs.Beside.{Each, with_temporaries, beside, IsDeclared, IsGrounded, HoldsGrounded, IsFrame, IsGroundedStore}
 use Rattle.porch_lowered.specs.Laws.{ReadsAlike}
 
@@ -88,7 +88,7 @@ module _ (declared : List ℕ) where
   in_call (a ∷ calls) (t ∷ ts) c v h lt =
       elim (eqb_tells a.number c) [
         | inl w ↦ (let same = ap (λ k. slice_index declared k) w.1 in let count = h.0.variables in
-        rw w.0 (front a.variables t v (omega (arith, lt, same, count))))
+            rw w.0 (front a.variables t v (omega (arith, lt, same, count))))
         | inr w ↦ rw w.0 (in_call calls ts c v h.1 lt)
       ]
 

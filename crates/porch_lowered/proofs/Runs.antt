@@ -1,11 +1,11 @@
 -- Runs of a flat program from a state, with the marks so far: what a run comes to from there, it comes to from here.
-use Rattle.std.proofs.Common.{◌≡◌, ℕ, suc, List, [], ◌∷◌, ◌++◌, Bool, true, false, refl, sym, ap, ◌∙◌, append-nil, Option, Some, None}
+use Rattle.std.proofs.Common.{◌≡◌, ℕ, suc, List, [], ◌++◌, Bool, true, false, refl, sym, ap, ◌∙◌, append-nil, Option, Some}
 use Rattle.std.specs.Prelude.{if◌then◌else◌}
 use Rattle.porch_values.specs.declared.acts.Act.{Act}
-use Rattle.porch_objects.specs.Meaning.{Environment, Mark, Meaning, Ending, Ended, Met, Paused}
+use Rattle.porch_objects.specs.Meaning.{Environment, Mark, Ending, Met, Paused}
 use Rattle.porch_flat.specs.declared.whole.Command.{Command}
 use Rattle.porch_flat.specs.declared.whole.Flat.{Flat}
-use Rattle.porch_abstract.specs.Machine.{State, Next, Goes, Ends, Meets}
+use Rattle.porch_abstract.specs.Machine.{State, Next, Goes, Meets}
 use Rattle.porch_abstract.specs.Run.{if_goes}
 use Rattle.porch_abstract.specs.whole.Machine.{begin, next}
 use Rattle.porch_abstract.specs.whole.Run.{marks_of, command_in, is_paused, run_to, then_on, observed, Means}

@@ -1,23 +1,22 @@
 -- The states of a flat run that follows the source, and what one command does to them.
-use Rattle.std.proofs.Common.{◌≡◌, ◌<◌, ◌≤◌, ℕ, zero, suc, ◌+◌, List, [], ◌∷◌, ◌++◌, length, max, refl, sym, ap, ◌∙◌, arith, length-append, Bool, true, false, Option, Some, None}
-use Rattle.std.specs.Prelude.{⊤, slice_get, nat_le, is_some, if◌then◌else◌, ◌&&◌, Result, Ok, Err}
+use Rattle.std.proofs.Common.{◌≡◌, ℕ, suc, ◌+◌, List, [], ◌∷◌, ◌++◌, length, refl, sym, ap, ◌∙◌, arith, false, Option, Some, None}
+use Rattle.std.specs.Prelude.{⊤, slice_get, nat_le, is_some, if◌then◌else◌, ◌&&◌, Result, Ok}
 use Rattle.porch_values.specs.declared.acts.Act.{Act}
 use Rattle.porch_values.specs.declared.acts.Act.TheVariants.{Indeterminate}
-use Rattle.porch_objects.specs.Store.{of_call, Value, number, null, pointer, past, indeterminate, Object, Store, object_at, seen, leaf_of, leaf_at, variable_home, innermost}
+use Rattle.porch_objects.specs.Store.{of_call, Value, number, null, pointer, past, indeterminate, Object, Store, object_at, seen, leaf_of, leaf_at}
 use Rattle.porch_objects.specs.Pointers.{if_there, if_place, used, load}
-use Rattle.porch_objects.specs.Meaning.{Environment, Mark, Progress, Ending, Met}
-use Rattle.porch_flat.specs.declared.flat.Operand.{Operand}
-use Rattle.porch_flat.specs.declared.flat.Operand.TheVariants.{Var, Constant}
+use Rattle.porch_objects.specs.Meaning.{Environment, Mark, Progress, Met}
+use Rattle.porch_flat.specs.declared.flat.Operand.TheVariants.{Var}
 use Rattle.porch_flat.specs.declared.whole.Command.{Command}
 use Rattle.porch_flat.specs.declared.whole.Flat.{Flat}
 use Rattle.porch_flat.specs.whole.Form.{Form, form_of}
 use Rattle.porch_flat.specs.whole.Places.{commands_of}
-use Rattle.porch_abstract.specs.Machine.{Frame, State, running, Next, Goes, Ends, Meets, with_phase, put, determined}
+use Rattle.porch_abstract.specs.Machine.{Frame, State, running, Next, Goes, Meets, with_phase, determined}
 use Rattle.porch_abstract.specs.whole.Machine.{next, after, does, operand_of}
 use Rattle.porch_abstract.specs.whole.Run.{marks_in, marks_at, counts, counts_turn, is_paused}
-use Rattle.porch_mean.specs.Outcome.{Outcome, Went, with_result}
-use Rattle.porch_lowered.specs.Beside.{beside, IsDeclared, IsGrounded, IsGroundedStore}
-use Rattle.porch_lowered.proofs.ReadAlike.{leaf_alike, seen_alike, leaf_grounded, seen_grounded}
+use Rattle.porch_mean.specs.Outcome.{Went, with_result}
+use Rattle.porch_lowered.specs.Beside.{beside, IsDeclared, IsGroundedStore}
+use Rattle.porch_lowered.proofs.ReadAlike.{leaf_alike, seen_alike, leaf_grounded}
 use Rattle.porch_lowered.proofs.Runs.{RunsTo, GoesOn, step_quietly, step_meets}
 use Rattle.porch_lowered.proofs.Follows.{EndsIn, Follows}
 use Rattle.porch_lowered.proofs.Temporaries.{IsInside, innermost_is}

@@ -1,8 +1,8 @@
 -- The temporaries of the call that runs: what is read of them and written to them.
-use Rattle.std.proofs.Common.{◌≡◌, ◌≢◌, ◌<◌, ◌≤◌, ℕ, zero, suc, ◌+◌, List, [], ◌∷◌, ◌++◌, length, refl, sym, ap, ◌∙◌, inl, inr, arith, Option, Some, None}
+use Rattle.std.proofs.Common.{◌≡◌, ◌≢◌, ◌<◌, ℕ, zero, suc, ◌+◌, List, [], ◌∷◌, ◌++◌, length, refl, sym, ap, ◌∙◌, inl, inr, arith, Option, Some, None}
 use Rattle.std.proofs.lemmas.Bool.Decides.{eqb_tells}
-use Rattle.std.specs.Prelude.{slice_get, slice_set, slice_index, nat_eq, true}
-use Rattle.porch_objects.specs.Store.{Home, of_call, Value, Object, Activation, Store, with_calls, variables_in, changed_at, changed_calls, object_at, leaf_of, leaf_at, with_leaves, with_leaf_at, innermost, innermost_in}
+use Rattle.std.specs.Prelude.{slice_get, slice_set, nat_eq, true}
+use Rattle.porch_objects.specs.Store.{of_call, Value, Object, Activation, Store, with_calls, variables_in, changed_at, changed_calls, leaf_of, leaf_at, with_leaves, with_leaf_at, innermost, innermost_in}
 use Rattle.porch_lowered.specs.Beside.{with_temporaries, beside}
 
 -- behind a list

@@ -1,20 +1,20 @@
 -- Forms with two operands, which are held in temporaries, and one command that makes the value of them.
-use Rattle.std.proofs.Common.{◌≡◌, ◌≤◌, ℕ, suc, ◌+◌, List, [], ◌∷◌, ◌++◌, length, max, refl, sym, ap, subst, ◌∙◌, arith, length-append, Option, Some, None}
-use Rattle.std.specs.Prelude.{Result, Ok, Err}
+use Rattle.std.proofs.Common.{◌≡◌, ◌≤◌, ℕ, ◌+◌, List, [], ◌∷◌, ◌++◌, length, max, refl, sym, ap, subst, ◌∙◌, arith, length-append, Option, Some, None}
+use Rattle.std.specs.Prelude.{Result}
 use Rattle.porch_values.specs.declared.acts.Act.{Act}
 use Rattle.porch_objects.specs.Store.{Value, Object, Store, seen}
 use Rattle.porch_objects.specs.Meaning.{Environment, Progress}
 use Rattle.porch_flat.specs.declared.whole.Command.{Command}
 use Rattle.porch_flat.specs.declared.whole.Flat.{Flat}
 use Rattle.porch_flat.specs.whole.Form.{form_of}
-use Rattle.porch_abstract.specs.Machine.{Frame, State, Next, Goes, Meets, put}
+use Rattle.porch_abstract.specs.Machine.{Frame, State, Goes, put}
 use Rattle.porch_abstract.specs.whole.Machine.{if_ok, does, variable_of}
 use Rattle.porch_mean.specs.Outcome.{Outcome, Went, and_then, with_result}
 use Rattle.porch_lowering.specs.Code.{InUse, and_one, Code, then_code, then_commands, Coder, hold}
 use Rattle.porch_lowering.specs.Operators.{next_of, var_of}
 use Rattle.porch_lowered.specs.Beside.{IsGrounded}
 use Rattle.porch_lowered.specs.Laws.{Gives}
-use Rattle.porch_lowered.proofs.Runs.{GoesOn, chain, stays}
+use Rattle.porch_lowered.proofs.Runs.{GoesOn, chain}
 use Rattle.porch_lowered.proofs.Follows.{Follows, follows_then, follows_from, follows_result}
 use Rattle.porch_lowered.proofs.States.{Stands, front_stands, back_stands, frame_at, commands, IsQuiet, command_goes, command_meets}
 use Rattle.porch_lowered.proofs.Growing.{Grows}
