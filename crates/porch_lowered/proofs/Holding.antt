@@ -17,7 +17,7 @@ use Rattle.porch_lowered.proofs.Follows.{Follows, follows_from}
 use Rattle.porch_lowered.proofs.Temporaries.{IsInside, innermost_is, with_temporary, temporary, temporary_read, temporary_written, other_temporary, same_temporary, still_temporary}
 use Rattle.porch_lowered.proofs.States.{Stands, frame_at, commands}
 use Rattle.porch_lowered.proofs.Growing.{Grows}
-use Rattle.porch_lowered.proofs.Codes.{IsUsed, Keeps, IsReady, here, Codes, Writes}
+use Rattle.porch_lowered.proofs.Codes.{IsUsed, Keeps, IsReady, here, Codes, Writes, MayGo}
 
 module _ (flat : Flat) (under : Environment) (n function : ℕ) (into : Option ℕ) (callers : List Frame) (more : List (List Object))
     (declared : List ℕ) (call first : ℕ) (start pools : ℕ → ℕ) where
@@ -105,6 +105,17 @@ module _ (flat : Flat) (under : Environment) (n function : ℕ) (into : Option �
           | inl w ↦ rw w.0 (let l : used ty < used ty + 1 = omega arith in l)
           | inr w ↦ absurd (w.1 refl)
         ]
+
+    -- the temporary that a value goes to has its type
+    pub temporary_type : (ty : ℕ) (coder : Coder) → Grows coder → (used : InUse) (label : ℕ)
+        → ((t : ℕ) → (coder (Some (next_of start ty used)) (and_one ty used) label).most t ≤ pools t)
+        → MayGo flat under n function into callers more declared call first start pools ty (Some (next_of start ty used))
+    temporary_type ty coder grows used label room =
+        let one = one_is_used ty used in
+        let grown = grows (Some (next_of start ty used)) (and_one ty used) label ty in
+        let space = room ty in
+        let inside : used ty < pools ty = omega (arith, one, grown, space) in
+        λ place. are.types ty (used ty) place inside
 
     pub codes_hold : (ty : ℕ) (value : Progress → Outcome) (coder : Coder)
         → Writes flat under n function into callers more declared call first start pools ty value coder → Grows coder

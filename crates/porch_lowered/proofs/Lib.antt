@@ -32,3 +32,5 @@ pub mod Places
 pub mod Branches
 -- `?:`
 pub mod Choices
+-- pointers that are stepped
+pub mod PointerSteps

@@ -19,7 +19,7 @@ use Rattle.porch_lowered.proofs.Follows.{Follows, follows_then, follows_from, fo
 use Rattle.porch_lowered.proofs.States.{Stands, front_stands, back_stands, frame_at, commands, IsQuiet, command_goes, command_meets}
 use Rattle.porch_lowered.proofs.Growing.{Grows}
 use Rattle.porch_lowered.proofs.Codes.{IsReady, here, Arrives, Writes, MayGo, IsUsed}
-use Rattle.porch_lowered.proofs.Holding.{ArePools, Holds, temporary_value, codes_hold, used_before, one_is_used}
+use Rattle.porch_lowered.proofs.Holding.{ArePools, Holds, temporary_value, codes_hold, used_before, one_is_used, temporary_type}
 
 at_most_left : (a b c : ℕ) → max a b ≤ c → a ≤ c
 at_most_left a b c h = omega (arith, h)
@@ -34,10 +34,12 @@ module _ (flat : Flat) (under : Environment) (n function : ℕ) (into : Option �
   at = here flat under n function into callers more declared call first start pools
 
   -- A command that makes a value of two others: `result` is what it is, or the act that is met.
-  pub record MakesOfTwo (ty : ℕ) (result : Store → Value → Value → Result Value Act) (command : (target left right : ℕ) → Command) : Type 0 where
+  pub record MakesOfTwo (left right ty : ℕ) (result : Store → Value → Value → Result Value Act) (command : (target left right : ℕ) → Command) : Type 0 where
     pub quiet : (d t u : ℕ) → IsQuiet flat (form_of (command d t u))
     pub does_is : (place d t u : ℕ) (s : Progress) (ts : List Object) (a b : Value)
         → IsReady flat under n function into callers more declared call first start pools s ts
+        → MayGo flat under n function into callers more declared call first start pools left (Some t)
+        → MayGo flat under n function into callers more declared call first start pools right (Some u)
         → MayGo flat under n function into callers more declared call first start pools ty (Some d) → IsGrounded declared a → IsGrounded declared b
         → variable_of t (at s ts place) ≡ seen s.store a → variable_of u (at s ts place) ≡ seen s.store b
         → does flat under (frame_at flat under n function into callers more place) callers (form_of (command d t u)) (at s ts place)
@@ -61,7 +63,7 @@ module _ (flat : Flat) (under : Environment) (n function : ℕ) (into : Option �
       → Grows left
       → Writes flat under n function into callers more declared call first start pools ty' value' right
       → Grows right
-      → MakesOfTwo ty'' result command
+      → MakesOfTwo ty ty' ty'' result command
       → (d : ℕ) (used : InUse) (label place : ℕ) (s : Progress) (ts : List Object)
       → IsReady flat under n function into callers more declared call first start pools s ts
       → MayGo flat under n function into callers more declared call first start pools ty'' (Some d)
@@ -103,7 +105,13 @@ module _ (flat : Flat) (under : Environment) (n function : ℕ) (into : Option �
       let left_holds = k.kept h.index left_used (λ e. cc) ∙ h.holds in
       let left_is = temporary_value flat under n function into callers more declared call first start pools are s'' k.temporaries place' h.index t v k.ready h.number left_holds h.grounded in
       let right_is = temporary_value flat under n function into callers more declared call first start pools are s'' k.temporaries place' k.index u w k.ready k.number k.holds k.grounded in
-      let effect = makes.does_is place' d t u s'' k.temporaries v w k.ready may h.grounded k.grounded left_is right_is in
+      let left_type =
+      temporary_type flat under n function into callers more declared call first start pools are ty left grows used label
+      (λ k. at_most_left (a.most k) (b.most k) (pools k) (room k)) in
+      let right_type =
+      temporary_type flat under n function into callers more declared call first start pools are ty' right grows' with_left a.label
+      (λ k. at_most_right (a.most k) (b.most k) (pools k) (room k)) in
+      let effect = makes.does_is place' d t u s'' k.temporaries v w k.ready left_type right_type may h.grounded k.grounded left_is right_is in
       let onward = chain flat under n (at s ts place) (at s' h.temporaries middle) (at s'' k.temporaries place') s.marks s'.marks s''.marks h.onward k.onward in
       rw (go_is v w s'')
       (follows_result flat under n (result s''.store v w) s'' _ (at s ts place) s.marks _
