@@ -1,6 +1,6 @@
 -- A pointer and a number of elements: STEP and BACK make what `+` and `-` give.
 use Rattle.std.proofs.Common.{◌≡◌, ℕ, ℤ, ◌+◌, List, ◌∷◌, refl, sym, ap, ◌∙◌, Option, Some, None}
-use Rattle.std.specs.Prelude.{slice_get, unwrap_or, Result, Ok, Err}
+use Rattle.std.specs.Prelude.{slice_get, unwrap_or, pos, ◌-ℤ◌, Result, Ok, Err}
 use Rattle.porch_types.specs.declared.shapes.Ty.{Ty}
 use Rattle.porch_types.specs.declared.shapes.Ty.TheVariants.{Pointer}
 use Rattle.porch_values.specs.declared.acts.Act.{Act}
@@ -16,7 +16,7 @@ use Rattle.porch_flat.specs.declared.whole.Direction.TheVariants.{Forward, Back}
 use Rattle.porch_flat.specs.declared.whole.Flat.{Flat}
 use Rattle.porch_flat.specs.whole.Places.{pointed, type_at}
 use Rattle.porch_abstract.specs.Machine.{Frame, State, Next, Goes, Meets, put, counted}
-use Rattle.porch_abstract.specs.whole.Machine.{if_ok, does, becomes, forward}
+use Rattle.porch_abstract.specs.whole.Machine.{if_ok, becomes, forward, var_type, variable_of}
 use Rattle.porch_lowered.specs.Beside.{beside, IsGrounded}
 use Rattle.porch_lowered.specs.Laws.{Gives}
 use Rattle.porch_lowered.proofs.ReadAlike.{step_alike, seen_grounded}
@@ -77,11 +77,6 @@ module _ (flat : Flat) (under : Environment) (n function : ℕ) (into : Option �
   abbrev frame : ℕ → Frame
   frame = frame_at flat under n function into callers more
 
-  -- the command of a direction
-  abbrev step_command : Direction → ℕ → ℕ → ℕ → Command
-  step_command Forward d t u = command.Step d t (Var u)
-  step_command Back d t u = command.Back d t (Var u)
-
   abbrev goes_on : ℕ → ℕ → Progress → List Object → Value → Next
   goes_on d place s ts w = becomes flat under (frame place) callers d (at s ts place) w
 
@@ -94,19 +89,44 @@ module _ (flat : Flat) (under : Environment) (n function : ℕ) (into : Option �
       (if_number_gives flat.types to way s.store declared (seen s.store b) _
       (λ z. (stay flat.types declared s.store ready.grounded).steps to (seen s.store a) (way z) (seen_grounded declared s.store a g))))
 
-  forward_makes : (ty right to : ℕ) → slice_get flat.types ty ≡ Some (Pointer to)
+  -- what a step does by its direction, at the pointee that its pointer's type has
+  abbrev does_step : Direction → ℕ → (d place : ℕ) → Progress → List Object → (x y : Value) → Next
+  does_step way to d place s ts x y =
+      counted y (λ z. if_ok (step flat.types to (beside s.store (ts ∷ more)) x (forward way z)) (goes_on d place s ts))
+
+  step_does : (way : Direction) (ty to place d t u : ℕ) (s : Progress) (ts : List Object) (a b : Value) → slice_get flat.types ty ≡ Some (Pointer to)
+      → IsReady flat under n function into callers more declared call first start pools s ts
+      → MayGo flat under n function into callers more declared call first start pools ty (Some t) → IsGrounded declared a
+      → variable_of t (at s ts place) ≡ seen s.store a → variable_of u (at s ts place) ≡ seen s.store b
+      → does_step way (unwrap_or (pointed (type_at flat (var_type flat (frame place) t))) 0) d place s ts (variable_of t (at s ts place)) (variable_of u (at s ts place))
+      ≡ if_ok (stepped flat.types to (forward way) s.store a b) (goes_on d place s ts)
+  step_does way ty to place d t u s ts a b is ready of_type g e e' =
+      ap (λ y. does_step way (unwrap_or (pointed (type_at flat (var_type flat (frame place) t))) 0) d place s ts (variable_of t (at s ts place)) y) e'
+      ∙ ap (λ o. does_step way (unwrap_or (pointed (type_at flat o)) 0) d place s ts (variable_of t (at s ts place)) (seen s.store b)) (of_type place)
+      ∙ ap (λ shape. does_step way (unwrap_or (pointed shape) 0) d place s ts (variable_of t (at s ts place)) (seen s.store b)) is
+      ∙ ap (λ x. does_step way to d place s ts x (seen s.store b)) e
+      ∙ ap (λ (f : ℤ → Result Value Act). counted (seen s.store b) (λ z. if_ok (f z) (goes_on d place s ts)))
+      (λ i z. step_alike declared s.store (ts ∷ more) ready.grounded flat.types to (seen s.store a) (forward way z) (seen_grounded declared s.store a g) i)
+      ∙ counted_steps flat.types to (forward way) s.store (seen s.store a) (seen s.store b) (goes_on d place s ts)
+
+  pub forward_makes : (ty right to : ℕ) → slice_get flat.types ty ≡ Some (Pointer to)
       → MakesOfTwo flat under n function into callers more declared call first start pools are ty right ty
-      (stepped flat.types to (forward Forward)) (step_command Forward)
+      (stepped flat.types to (λ z. z)) (λ d t u. command.Step d t (Var u))
   forward_makes ty right to is =
       record {
         quiet = λ d t u. record { calm = refl; silent = λ s frame. refl };
         does_is = λ place d t u s ts a b ready left_type right_type may g g' e e'.
-            ap (λ y. counted y (λ z. if_ok (step flat.types (unwrap_or (pointed (type_at flat (Rattle.porch_abstract.specs.whole.Machine.var_type flat (frame place) t))) 0) (beside s.store (ts ∷ more)) (Rattle.porch_abstract.specs.whole.Machine.variable_of t (at s ts place)) (forward Forward z)) (goes_on d place s ts))) e'
-            ∙ ap (λ o. counted (seen s.store b) (λ z. if_ok (step flat.types (unwrap_or (pointed (type_at flat o)) 0) (beside s.store (ts ∷ more)) (Rattle.porch_abstract.specs.whole.Machine.variable_of t (at s ts place)) (forward Forward z)) (goes_on d place s ts))) (left_type place)
-            ∙ ap (λ shape. counted (seen s.store b) (λ z. if_ok (step flat.types (unwrap_or (pointed shape) 0) (beside s.store (ts ∷ more)) (Rattle.porch_abstract.specs.whole.Machine.variable_of t (at s ts place)) (forward Forward z)) (goes_on d place s ts))) is
-            ∙ ap (λ x. counted (seen s.store b) (λ z. if_ok (step flat.types to (beside s.store (ts ∷ more)) x (forward Forward z)) (goes_on d place s ts))) e
-            ∙ ap (λ (f : ℤ → Result Value Act). counted (seen s.store b) (λ z. if_ok (f z) (goes_on d place s ts)))
-            (λ i z. step_alike declared s.store (ts ∷ more) ready.grounded flat.types to (seen s.store a) (forward Forward z) (seen_grounded declared s.store a g) i)
-            ∙ counted_steps flat.types to (forward Forward) s.store (seen s.store a) (seen s.store b) (goes_on d place s ts);
-        gives = λ s ts a b ready g g'. step_gives to (forward Forward) s ts a b ready g;
+            step_does Forward ty to place d t u s ts a b is ready left_type g e e';
+        gives = λ s ts a b ready g g'. step_gives to (λ z. z) s ts a b ready g;
+      }
+
+  pub back_makes : (ty right to : ℕ) → slice_get flat.types ty ≡ Some (Pointer to)
+      → MakesOfTwo flat under n function into callers more declared call first start pools are ty right ty
+      (stepped flat.types to (λ z. pos 0 -ℤ z)) (λ d t u. command.Back d t (Var u))
+  back_makes ty right to is =
+      record {
+        quiet = λ d t u. record { calm = refl; silent = λ s frame. refl };
+        does_is = λ place d t u s ts a b ready left_type right_type may g g' e e'.
+            step_does Back ty to place d t u s ts a b is ready left_type g e e';
+        gives = λ s ts a b ready g g'. step_gives to (λ z. pos 0 -ℤ z) s ts a b ready g;
       }
