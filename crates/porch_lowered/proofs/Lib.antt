@@ -34,3 +34,5 @@ pub mod Branches
 pub mod Choices
 -- pointers that are stepped
 pub mod PointerSteps
+-- the elements between two pointers
+pub mod PointerDifferences
