@@ -1,5 +1,5 @@
 -- Two pointers of one type: DIFF makes what `-` gives.
-use Rattle.std.proofs.Common.{◌≡◌, ℕ, ℤ, ◌+◌, List, ◌∷◌, refl, sym, ap, ◌∙◌, Option, Some, None}
+use Rattle.std.proofs.Common.{◌≡◌, ℕ, ℤ, List, ◌∷◌, refl, ap, ◌∙◌, Option, Some}
 use Rattle.std.specs.Prelude.{slice_get, unwrap_or, Result, Ok, Err}
 use Rattle.porch_types.specs.declared.shapes.Ty.{Ty}
 use Rattle.porch_types.specs.declared.shapes.Ty.TheVariants.{Pointer}
@@ -7,11 +7,10 @@ use Rattle.porch_values.specs.declared.acts.Act.{Act}
 use Rattle.porch_objects.specs.Store.{Value, number, Object, Store, seen}
 use Rattle.porch_objects.specs.Pointers.{if_there, position_of, between, difference}
 use Rattle.porch_objects.specs.Meaning.{Environment, Progress}
-use Rattle.porch_flat.specs.declared.whole.Command.{Command}
 use Rattle.porch_flat.specs.declared.whole.Command.TheVariants as command
 use Rattle.porch_flat.specs.declared.whole.Flat.{Flat}
 use Rattle.porch_flat.specs.whole.Places.{pointed, type_at}
-use Rattle.porch_abstract.specs.Machine.{Frame, State, Next, Goes, Meets, put}
+use Rattle.porch_abstract.specs.Machine.{Frame, State, Next}
 use Rattle.porch_abstract.specs.whole.Machine.{if_ok, becomes, var_type, variable_of}
 use Rattle.porch_mean.specs.Operators.{as_value}
 use Rattle.porch_lowering.specs.Values.{LONG}
@@ -19,7 +18,7 @@ use Rattle.porch_lowered.specs.Beside.{beside, IsGrounded}
 use Rattle.porch_lowered.specs.Laws.{Gives}
 use Rattle.porch_lowered.proofs.ReadAlike.{difference_alike, seen_grounded}
 use Rattle.porch_lowered.proofs.States.{frame_at}
-use Rattle.porch_lowered.proofs.Codes.{IsReady, here, MayGo}
+use Rattle.porch_lowered.proofs.Codes.{here}
 use Rattle.porch_lowered.proofs.Forms.{seen_twice}
 use Rattle.porch_lowered.proofs.Holding.{ArePools}
 use Rattle.porch_lowered.proofs.TwoOperands.{MakesOfTwo}

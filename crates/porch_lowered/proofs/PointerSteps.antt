@@ -1,6 +1,6 @@
 -- A pointer and a number of elements: STEP and BACK make what `+` and `-` give.
-use Rattle.std.proofs.Common.{◌≡◌, ℕ, ℤ, ◌+◌, List, ◌∷◌, refl, sym, ap, ◌∙◌, Option, Some, None}
-use Rattle.std.specs.Prelude.{slice_get, unwrap_or, pos, ◌-ℤ◌, Result, Ok, Err}
+use Rattle.std.proofs.Common.{◌≡◌, ℕ, ℤ, List, ◌∷◌, refl, ap, ◌∙◌, Option, Some}
+use Rattle.std.specs.Prelude.{slice_get, unwrap_or, pos, ◌-ℤ◌, Result, Err}
 use Rattle.porch_types.specs.declared.shapes.Ty.{Ty}
 use Rattle.porch_types.specs.declared.shapes.Ty.TheVariants.{Pointer}
 use Rattle.porch_values.specs.declared.acts.Act.{Act}
@@ -9,13 +9,12 @@ use Rattle.porch_objects.specs.Store.{Value, number, null, pointer, past, indete
 use Rattle.porch_objects.specs.Pointers.{if_there, if_number, step}
 use Rattle.porch_objects.specs.Meaning.{Environment, Progress}
 use Rattle.porch_flat.specs.declared.flat.Operand.TheVariants.{Var}
-use Rattle.porch_flat.specs.declared.whole.Command.{Command}
 use Rattle.porch_flat.specs.declared.whole.Command.TheVariants as command
 use Rattle.porch_flat.specs.declared.whole.Direction.{Direction}
 use Rattle.porch_flat.specs.declared.whole.Direction.TheVariants.{Forward, Back}
 use Rattle.porch_flat.specs.declared.whole.Flat.{Flat}
 use Rattle.porch_flat.specs.whole.Places.{pointed, type_at}
-use Rattle.porch_abstract.specs.Machine.{Frame, State, Next, Goes, Meets, put, counted}
+use Rattle.porch_abstract.specs.Machine.{Frame, State, Next, Meets, counted}
 use Rattle.porch_abstract.specs.whole.Machine.{if_ok, becomes, forward, var_type, variable_of}
 use Rattle.porch_lowered.specs.Beside.{beside, IsGrounded}
 use Rattle.porch_lowered.specs.Laws.{Gives}
