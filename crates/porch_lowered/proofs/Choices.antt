@@ -1,5 +1,5 @@
 -- `?:`, whose condition is held in an int.
-use Rattle.std.proofs.Common.{◌≡◌, ◌≤◌, ℕ, ◌+◌, List, [], ◌∷◌, ◌++◌, length, max, refl, arith, length-append, Option, Some, None}
+use Rattle.std.proofs.Common.{◌≡◌, ℕ, ◌+◌, List, [], ◌∷◌, ◌++◌, length, max, refl, arith, length-append, Option, Some, None}
 use Rattle.std.specs.Prelude.{slice_get}
 use Rattle.porch_objects.specs.Store.{Value, Object, seen}
 use Rattle.porch_objects.specs.Meaning.{Environment, Progress}
@@ -16,15 +16,9 @@ use Rattle.porch_lowered.proofs.Runs.{GoesOn, chain}
 use Rattle.porch_lowered.proofs.Follows.{follows_from, follows_then_is}
 use Rattle.porch_lowered.proofs.States.{front_stands, back_stands, commands}
 use Rattle.porch_lowered.proofs.Growing.{Grows}
-use Rattle.porch_lowered.proofs.Codes.{here, arrived, Arrives, Codes, Writes, keeps_both}
+use Rattle.porch_lowered.proofs.Codes.{at_most_left, at_most_right, here, arrived, Arrives, Codes, Writes, keeps_both}
 use Rattle.porch_lowered.proofs.Holding.{ArePools, temporary_value, codes_hold}
 use Rattle.porch_lowered.proofs.Branches.{IsInt, AreHomes, jump_from, label_from, branch_follows}
-
-at_most_left : (a b c : ℕ) → max a b ≤ c → a ≤ c
-at_most_left a b c h = omega (arith, h)
-
-at_most_right : (a b c : ℕ) → max a b ≤ c → b ≤ c
-at_most_right a b c h = omega (arith, h)
 
 module _ (flat : Flat) (under : Environment) (n function : ℕ) (into : Option ℕ) (callers : List Frame) (more : List (List Object))
     (declared : List ℕ) (call first : ℕ) (start pools : ℕ → ℕ)

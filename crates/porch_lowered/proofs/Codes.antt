@@ -14,10 +14,10 @@ use Rattle.porch_lowered.proofs.Follows.{Follows, follows_from, follows_then}
 use Rattle.porch_lowered.proofs.Temporaries.{IsInside, IsTemporary, temporary}
 use Rattle.porch_lowered.proofs.States.{Stands, front_stands, back_stands, frame_at, state_of, commands}
 
-at_most_left : (a b c : ℕ) → max a b ≤ c → a ≤ c
+pub at_most_left : (a b c : ℕ) → max a b ≤ c → a ≤ c
 at_most_left a b c h = omega (arith, h)
 
-at_most_right : (a b c : ℕ) → max a b ≤ c → b ≤ c
+pub at_most_right : (a b c : ℕ) → max a b ≤ c → b ≤ c
 at_most_right a b c h = omega (arith, h)
 
 -- A call of a function: `call` is its number and `first` that of its first temporary; the pools begin at `start`, and have

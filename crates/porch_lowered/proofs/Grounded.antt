@@ -15,7 +15,7 @@ use Rattle.porch_objects.specs.Store.{Home, of_global, of_call, of_block, Value,
 use Rattle.porch_objects.specs.Pointers.{if_there, if_place, load, member, Position, row_in, position_of, is_shared, element_from, step_from, step, leaves_from, spliced, store, copy, Allocation, block_of, allocate, MOST_COUNT, without_block, release_at, release}
 use Rattle.porch_lowered.specs.Beside.{Each, IsDeclared, IsGrounded, HoldsGrounded, IsFrame, IsGroundedStore}
 use Rattle.porch_lowered.specs.Laws.{Gives, StaysGrounded}
-use Rattle.porch_lowered.proofs.ReadAlike.{OnSome, object_holds, leaf_grounded, seen_grounded}
+use Rattle.porch_lowered.proofs.ReadAlike.{found_in, OnSome, object_holds, leaf_grounded, seen_grounded}
 
 -- lists of which each element has a property
 
@@ -49,11 +49,6 @@ each_map P f (x ∷ xs) h = (h x, each_map P f xs h)
 each_other : {A : Type 0} (P Q : A → Type 0) (xs : List A) → ((x : A) → P x → Q x) → Each P xs → Each Q xs
 each_other P Q [] f h = tt
 each_other P Q (x ∷ xs) f h = (f x h.0, each_other P Q xs f h.1)
-
-found_in : {A : Type 0} (P : A → Type 0) (xs : List A) (i : ℕ) → Each P xs → OnSome P (slice_get xs i)
-found_in P [] i h = tt
-found_in P (x ∷ xs) zero h = h.0
-found_in P (x ∷ xs) (suc i) h = found_in P xs i h.1
 
 length-set : (xs : List Object) (i : ℕ) (x : Object) → length (slice_set xs i x) ≡ length xs
 length-set [] i x = refl

@@ -25,7 +25,7 @@ abbrev pub OnSome : {A : Type 0} → (A → Type 0) → Option A → Type 0
 OnSome P None = ⊤
 OnSome P (Some x) = P x
 
-found_in : {A : Type 0} (P : A → Type 0) (xs : List A) (i : ℕ) → Each P xs → OnSome P (slice_get xs i)
+pub found_in : {A : Type 0} (P : A → Type 0) (xs : List A) (i : ℕ) → Each P xs → OnSome P (slice_get xs i)
 found_in P [] i h = tt
 found_in P (x ∷ xs) zero h = h.0
 found_in P (x ∷ xs) (suc i) h = found_in P xs i h.1

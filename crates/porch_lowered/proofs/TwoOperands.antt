@@ -1,5 +1,5 @@
 -- Forms with two operands, which are held in temporaries, and one command that makes the value of them.
-use Rattle.std.proofs.Common.{◌≡◌, ◌≤◌, ℕ, ◌+◌, List, [], ◌∷◌, ◌++◌, length, max, refl, sym, ap, subst, ◌∙◌, arith, length-append, Option, Some, None}
+use Rattle.std.proofs.Common.{◌≡◌, ◌≤◌, ℕ, ◌+◌, List, [], ◌∷◌, ◌++◌, length, refl, sym, ap, subst, ◌∙◌, arith, length-append, Option, Some, None}
 use Rattle.std.specs.Prelude.{Result}
 use Rattle.porch_values.specs.declared.acts.Act.{Act}
 use Rattle.porch_objects.specs.Store.{Value, Object, Store, seen}
@@ -18,14 +18,8 @@ use Rattle.porch_lowered.proofs.Runs.{GoesOn, chain}
 use Rattle.porch_lowered.proofs.Follows.{Follows, follows_then, follows_from, follows_result}
 use Rattle.porch_lowered.proofs.States.{Stands, front_stands, back_stands, frame_at, commands, IsQuiet, command_goes, command_meets}
 use Rattle.porch_lowered.proofs.Growing.{Grows}
-use Rattle.porch_lowered.proofs.Codes.{IsReady, here, Arrives, Writes, MayGo, IsUsed}
+use Rattle.porch_lowered.proofs.Codes.{at_most_left, at_most_right, IsReady, here, Arrives, Writes, MayGo, IsUsed}
 use Rattle.porch_lowered.proofs.Holding.{ArePools, Holds, temporary_value, codes_hold, used_before, one_is_used, temporary_type}
-
-at_most_left : (a b c : ℕ) → max a b ≤ c → a ≤ c
-at_most_left a b c h = omega (arith, h)
-
-at_most_right : (a b c : ℕ) → max a b ≤ c → b ≤ c
-at_most_right a b c h = omega (arith, h)
 
 module _ (flat : Flat) (under : Environment) (n function : ℕ) (into : Option ℕ) (callers : List Frame) (more : List (List Object))
     (declared : List ℕ) (call first : ℕ) (start pools : ℕ → ℕ)
