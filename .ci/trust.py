@@ -114,7 +114,7 @@ def cited_by_type(one, kept):
     models = [(place, impl) for place, impl in impls_of(one) if impl.trait == "Model"]
     for place, impl in models:
         names = {"Value", "view", "invariant"} if kept else {"Value"}
-        found.update(cited_by_ghosts(place, impl, names, set()))
+        found.update(cited_by_ghosts(place, impl, names, set(WORD.findall(impl.generics))))
     if one.kind in ("const", "static", "type"):
         return types_in(file, one.body)
     if one.kind == "enum":

@@ -15,7 +15,7 @@ flat='porch_types porch_values porch_flat porch_flat_line porch_flat_text'
 case $name in
     flat_times) base=$flat kit=sqlite_items ;;
     rewrite_times) base="$flat porch_objects porch_abstract porch_rewrite" kit=sqlite_items ;;
-    abstract_times) base="$flat porch_objects porch_live porch_abstract porch_steps" kit=sqlite_items ;;
+    abstract_times) base="$flat porch_objects porch_sparse porch_live porch_abstract porch_steps" kit=sqlite_items ;;
     lex_times) base='porch_tree porch_lex' ;;
     depth_times) base='porch_tree porch_lex porch_walk porch_depth' kit='sqlite_items indexmap thiserror' ;;
     *) base='porch_types porch_values porch_layout porch_metrics porch_heap' first=none ;;

@@ -10,4 +10,7 @@ pub mod Allocating
 pub mod Used
 pub mod Parts
 pub mod Copying
+pub mod Unchanged
+pub mod Elements
 pub mod BytesOfTexts
+pub mod Refused

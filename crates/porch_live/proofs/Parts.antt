@@ -1,5 +1,5 @@
 -- Leaves of an object that become others.
-use Rattle.std.proofs.Common.{◌≡◌, ℕ, zero, suc, ◌+◌, ◌≤◌, true, nat_le, List, [], ◌∷◌, ◌++◌, Some, None, slice_get, refl, length, map, take, drop, inl, inr, sym, ap, ◌∙◌, arith}
+use Rattle.std.proofs.Common.{◌≡◌, ℕ, zero, suc, ◌+◌, ◌≤◌, true, nat_le, List, [], ◌∷◌, ◌++◌, get_or, length, map, take, drop, inl, inr, sym, ap, ◌∙◌, arith}
 use Rattle.std.proofs.lemmas.List.{map-append, take-map, drop-map, length-map}
 use Rattle.std.proofs.lemmas.Bool.Decides.{leb_tells}
 use Rattle.porch_objects.specs.Store as store
@@ -33,16 +33,11 @@ pub seen_taken : (xs : List Value) (at count : ℕ) → map value_of (take count
 seen_taken xs at count =
     sym (take-map value_of count (drop at xs)) ∙ ap (λ (vs : List store.Value). take count vs) (sym (drop-map value_of at xs))
 
--- the only leaf becomes the first of other values
-pub only_becomes : (x first : Value) (at : ℕ) (vs : List Value) → Some first ≡ slice_get vs 0 → at + length vs ≤ 1 → first ∷ [] ≡ spliced_in (x ∷ []) at vs
-only_becomes x first at [] is fits = cc
-only_becomes x first zero (v ∷ []) is fits = cc
-only_becomes x first (suc at) (v ∷ []) is fits = absurd (omega (arith, fits))
-only_becomes x first at (v ∷ w ∷ vs) is fits = absurd (omega (arith, fits))
-
--- and stays where there is none
-pub only_stays : (x : Value) (at : ℕ) (vs : List Value) → None ≡ slice_get vs 0 → at + length vs ≤ 1 → x ∷ [] ≡ spliced_in (x ∷ []) at vs
-only_stays x zero [] none fits = refl
-only_stays x (suc zero) [] none fits = refl
-only_stays x (suc (suc at)) [] none fits = absurd (omega (arith, fits))
-only_stays x at (v ∷ vs) none fits = cc
+-- the only leaf becomes the first of other values, and stays where there is none
+pub only_put : (x y : Value) (at : ℕ) (vs : List Value) → y ≡ get_or vs 0 x → at + length vs ≤ 1 → y ∷ [] ≡ spliced_in (x ∷ []) at vs
+only_put x y zero [] is fits = ap (λ (v : Value). let vs : List Value = v ∷ [] in vs) is
+only_put x y (suc zero) [] is fits = ap (λ (v : Value). let vs : List Value = v ∷ [] in vs) is
+only_put x y (suc (suc at)) [] is fits = absurd (omega (arith, fits))
+only_put x y zero (v ∷ []) is fits = ap (λ (v : Value). let vs : List Value = v ∷ [] in vs) is
+only_put x y (suc at) (v ∷ []) is fits = absurd (omega (arith, fits))
+only_put x y at (v ∷ w ∷ vs) is fits = absurd (omega (arith, fits))

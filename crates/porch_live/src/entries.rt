@@ -3,7 +3,7 @@ ghost use Rattle.std.specs.Prelude.{◌≡◌, ℕ, ◌++◌, ◌∷◌, [], IfS
 ghost use Rattle.std.specs.Option.{option_map};
 ghost use Rattle.porch_objects.specs.Store.{variables_in, changed_calls, innermost_in, callers_in};
 ghost use Rattle.porch_objects.specs.Pointers.{without_block};
-ghost use Rattle.porch_live.specs.inside.Edits.{edited, first_becomes};
+ghost use Rattle.porch_live.specs.inside.Edits.{done, first_becomes};
 ghost use Rattle.porch_live.specs.inside.Entries.{IsRising, IsBelow, StandsAt, HasNone, stacked, blocks_of, ended, is_live};
 
 use crate::edit::Edit;
@@ -25,14 +25,22 @@ pub(crate) fn object_in(entries: &[Entry], number: u64, index: usize) -> Option<
 }
 
 /// Changes an object of an entry, where it is there.
-pub(crate) fn edit_in(entries: &mut Vec<Entry>, number: u64, index: usize, edit: &Edit)
+pub(crate) fn edit_in(
+    entries: &mut Vec<Entry>,
+    number: u64,
+    index: usize,
+    edit: &Edit,
+) -> Result<(), AllocError>
     requires { IsRising 0 entries.old.items }
     ensures { entries.new.items
-        ≡ changed_calls (edited edit.now) entries.old.items number index }
+        ≡ changed_calls (done edit.now result) entries.old.items number index }
 {
-    if let Some(at) = index_of(entries, number) {
-        let entry = &mut entries[at];
-        entry.edit(index, edit);
+    match index_of(entries, number) {
+        Some(at) => {
+            let entry = &mut entries[at];
+            entry.edit(index, edit)
+        }
+        None => Ok(()),
     }
 }
 

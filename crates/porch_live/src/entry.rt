@@ -3,11 +3,12 @@ ghost use Rattle.std.specs.Prelude.{◌≡◌, [], slice_get};
 ghost use Rattle.std.specs.Option.{option_map};
 ghost use Rattle.porch_objects.specs.Store.{changed_at};
 ghost use Rattle.porch_live.specs.inside.Entries.{is_live, with_variables};
-ghost use Rattle.porch_live.specs.inside.Edits.{edited, first_becomes};
+ghost use Rattle.porch_live.specs.inside.Edits.{done, first_becomes};
 
 use crate::edit::Edit;
 use crate::object::{Object, edit_one, set_first};
 use crate::value::Value;
+use std::alloc::AllocError;
 use std::marker::Model;
 
 /// The objects of a call or of an allocation. Contracts see it as a call with its variables.
@@ -45,11 +46,11 @@ impl Entry {
     }
 
     /// Changes an object, where it is there.
-    pub(crate) fn edit(&mut self, index: usize, edit: &Edit)
-        ensures { self.new ≡ with_variables self.old (changed_at (edited edit.now)
+    pub(crate) fn edit(&mut self, index: usize, edit: &Edit) -> Result<(), AllocError>
+        ensures { self.new ≡ with_variables self.old (changed_at (done edit.now result)
             self.old.variables (slice_get self.old.variables index) index) }
     {
-        edit_one(&mut self.objects, index, edit);
+        edit_one(&mut self.objects, index, edit)
     }
 
     /// Gives the first leaf of an object a value, where it is there.

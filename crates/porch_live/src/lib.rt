@@ -23,6 +23,7 @@ mod roots;
 mod store;
 mod texts;
 mod value;
+mod zeros;
 
 pub use object::{Object, Root};
 pub use roots::leaves_of;

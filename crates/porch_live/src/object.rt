@@ -1,15 +1,16 @@
 //! Objects, each a root with the values of its leaves.
-ghost use Rattle.std.specs.Prelude.{◌≡◌, ◌+◌, ◌<◌, ◌≤◌, ◌∷◌, [], nat_le, take, drop, length, map, replicate, slice_get, slice_set, slice_index_or, IfOk};
+ghost use Rattle.std.specs.Prelude.{◌≡◌, ◌+◌, ◌<◌, ◌≤◌, ◌∷◌, [], nat_le, take, drop, length, map, replicate, slice_get, slice_set, slice_index_or, IfOk, OnOk, OnErr};
 ghost use Rattle.porch_objects.specs.Store.{indeterminate, with_leaves, changed_at, fresh, zeroed};
 ghost use Rattle.porch_objects.specs.Pointers.{block_of};
 ghost use Rattle.porch_live.specs.Views.{value_of, root_of};
-ghost use Rattle.porch_live.specs.inside.Edits.{edited, first_becomes, with_part};
-ghost use Rattle.porch_live.specs.inside.Leaves.{zeros_of};
+ghost use Rattle.porch_live.specs.inside.Edits.{done, first_becomes, with_part};
+ghost use Rattle.porch_live.specs.inside.Leaves.{values_in};
 
 use crate::edit::Edit;
 use crate::leaves::Leaves;
-use crate::roots::{leaves_in, zero_of};
+use crate::roots::leaves_in;
 use crate::value::Value;
+use crate::zeros::zero_leaves;
 use porch_types::Types;
 use std::alloc::{AllocError, Global};
 use std::marker::Model;
@@ -53,10 +54,7 @@ impl Object {
     pub fn zeroed(alloc: Global, types: &Types, root: Root) -> Result<Object, AllocError>
         ensures { IfOk result (λ object. object ≡ zeroed types.now (root_of root)) }
     {
-        let leaves = match leaves_in(types, root) {
-            1 => Leaves::One(zero_of(types, types.leaf_type(root.ty, 0))),
-            count => Leaves::Many(zeros(alloc, types, root.ty, count)?),
-        };
+        let leaves = zero_leaves(alloc, types, root.ty, leaves_in(types, root))?;
         Ok(Object { root, leaves })
     }
 
@@ -81,37 +79,43 @@ impl Object {
     pub fn len(&self) -> usize
         ensures { result ≡ length self.now.leaves }
     {
-        self.leaves.as_slice().len()
+        self.leaves.len()
     }
 
     /// The value of a leaf; indeterminate behind the last.
     pub fn leaf(&self, leaf: u64) -> Value
         ensures { value_of result ≡ slice_index_or self.now.leaves leaf indeterminate }
     {
-        let at = leaf as usize;
-        let values = self.leaves.as_slice();
-        if at < values.len() {
-            values[at]
-        } else {
-            Value::Indeterminate
-        }
+        self.leaves.get(leaf as usize)
     }
 
-    /// Gives a leaf a value. Behind the last leaf nothing changes.
-    pub fn set_leaf(&mut self, leaf: u64, value: Value)
-        ensures { self.new
-            ≡ with_leaves self.old (slice_set self.old.leaves leaf (value_of value)) }
+    /// Gives a leaf a value. Behind the last leaf nothing changes. A leaf of a large object may need memory;
+    /// where it is refused, nothing changes.
+    pub fn set_leaf(&mut self, leaf: u64, value: Value) -> Result<(), AllocError>
+        ensures set { OnOk result (self.new
+            ≡ with_leaves self.old (slice_set self.old.leaves leaf (value_of value))) }
+        ensures same { OnErr result (self.new ≡ self.old) }
     {
-        self.leaves.set(leaf as usize, value);
+        self.leaves.set(leaf as usize, value)
     }
 
-    pub(crate) fn edit(&mut self, edit: &Edit)
-        ensures { self.new ≡ edited edit.now self.old }
+    /// Gives the first leaf a value, where there is one.
+    fn set_first(&mut self, value: Value)
+        ensures { self.new ≡ first_becomes value self.old }
+    {
+        self.leaves.set_first(value);
+    }
+
+    pub(crate) fn edit(&mut self, edit: &Edit) -> Result<(), AllocError>
+        ensures { self.new ≡ done edit.now result self.old }
     {
         match edit {
             Edit::Leaf { leaf, value } => self.set_leaf(*leaf, *value),
             Edit::Part { at, values } => self.set_part(*at as usize, values),
-            Edit::Forget => self.forget(),
+            Edit::Forget => {
+                self.forget();
+                Ok(())
+            }
         }
     }
 
@@ -125,9 +129,7 @@ impl Object {
         ensures { IfOk result (λ values. map value_of values.items
             ≡ take count (drop leaf self.now.leaves)) }
     {
-        let part = part_of(self.leaves.as_slice(), leaf as usize, count as usize);
-        let values = Vec::from_slice(alloc, part)?;
-        Ok(values)
+        self.leaves.part(alloc, leaf as usize, count as usize)
     }
 
     /// Whether it has so many leaves from one on.
@@ -135,7 +137,7 @@ impl Object {
         ensures { result ≡ nat_le (leaf + count) (length self.now.leaves) }
     {
         let at = leaf as usize;
-        let len = self.leaves.as_slice().len();
+        let len = self.leaves.len();
         if at > len {
             return false;
         }
@@ -151,50 +153,29 @@ impl Object {
     }
 
     /// Leaves from one on become others, where the object has all of them.
-    fn set_part(&mut self, at: usize, values: &[Value])
-        ensures { self.new ≡ with_part at (map value_of values.now) self.old }
+    fn set_part(&mut self, at: usize, values: &[Value]) -> Result<(), AllocError>
+        ensures set { OnOk result (self.new ≡ with_part at (map value_of values.now) self.old) }
+        ensures same { OnErr result (self.new ≡ self.old) }
     {
-        let len = self.leaves.as_slice().len();
+        let len = self.leaves.len();
         if at <= len && values.len() <= len - at {
-            self.leaves.put_part(at, values);
+            self.leaves.put_part(at, values)
+        } else {
+            Ok(())
         }
     }
 }
 
-/// The values of so many leaves of a type that are all 0 and null.
-fn zeros(alloc: Global, types: &Types, ty: u32, count: u64) -> Result<Vec<Value>, AllocError>
-    requires { 0 < count → ty < length types.now }
-    ensures { IfOk result (λ values. map value_of values.items
-        ≡ zeros_of types.now ty count) }
-{
-    let mut values = Vec::with_capacity(alloc, count as usize)?;
-    for leaf in 0..count {
-        values.push(zero_of(types, types.leaf_type(ty, leaf)))?;
-    }
-    Ok(values)
-}
-
-fn part_of(values: &[Value], at: usize, count: usize) -> &[Value]
-    ensures { result.now ≡ take count (drop at values.now) }
-{
-    if at > values.len() {
-        return &values[values.len()..];
-    }
-    let rest = &values[at..];
-    if count < rest.len() {
-        return &rest[..count];
-    }
-    rest
-}
-
 /// Changes one of these objects, where it is there.
-pub(crate) fn edit_one(objects: &mut [Object], index: usize, edit: &Edit)
-    ensures { objects.new ≡ changed_at (edited edit.now) objects.old
+pub(crate) fn edit_one(objects: &mut [Object], index: usize, edit: &Edit) -> Result<(), AllocError>
+    ensures { objects.new ≡ changed_at (done edit.now result) objects.old
         (slice_get objects.old index) index }
 {
     if index < objects.len() {
         let object = &mut objects[index];
-        object.edit(edit);
+        object.edit(edit)
+    } else {
+        Ok(())
     }
 }
 
@@ -205,7 +186,7 @@ pub(crate) fn set_first(objects: &mut [Object], index: usize, value: Value)
 {
     if index < objects.len() {
         let object = &mut objects[index];
-        object.set_leaf(0, value);
+        object.set_first(value);
     }
 }
 

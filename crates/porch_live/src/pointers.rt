@@ -33,31 +33,33 @@ impl Store {
         }
     }
 
-    /// Gives the leaf that a pointer names a value. Where it answers an act, nothing changes.
-    pub fn store(&mut self, pointer: Value, value: Value) -> Result<(), Act>
-        ensures stored { after result self.new
-            ≡ store self.old (value_of pointer) (value_of value) }
+    /// Gives the leaf that a pointer names a value. A leaf of a large object may need memory. Where it answers
+    /// an act or an error, nothing changes.
+    pub fn store(&mut self, pointer: Value, value: Value) -> Result<Result<(), Act>, AllocError>
+        ensures stored { IfOk result (λ answer. after answer self.new
+            ≡ store self.old (value_of pointer) (value_of value)) }
+        ensures refused { IfOk result (λ answer. OnErr answer (self.new ≡ self.old)) }
         ensures same { OnErr result (self.new ≡ self.old) }
     {
         let value = self.seen(value);
         match self.seen(pointer) {
-            Value::Indeterminate => Err(Act::Indeterminate),
+            Value::Indeterminate => Ok(Err(Act::Indeterminate)),
             Value::Pointer { home, leaf } => {
                 match determined(value) {
                     Ok(value) => {
-                        self.set_leaf(home, leaf, value);
-                        Ok(())
+                        self.set_leaf(home, leaf, value)?;
+                        Ok(Ok(()))
                     }
-                    Err(act) => Err(act),
+                    Err(act) => Ok(Err(act)),
                 }
             }
-            Value::Number(_) => Err(access_after(value)),
-            Value::Null => Err(access_after(value)),
+            Value::Number(_) => Ok(Err(access_after(value))),
+            Value::Null => Ok(Err(access_after(value))),
             Value::Past {
                 home: _,
                 leaf: _,
                 until: _,
-            } => Err(access_after(value)),
+            } => Ok(Err(access_after(value))),
         }
     }
 
@@ -120,7 +122,7 @@ impl Store {
                     return Err(AllocError);
                 }
                 let at = places.leaf;
-                self.edit(places.home, &Edit::Part { at, values });
+                self.edit(places.home, &Edit::Part { at, values })?;
                 Ok(Ok(()))
             }
             Err(act) => Ok(Err(act)),

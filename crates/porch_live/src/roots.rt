@@ -1,8 +1,8 @@
 //! What a list of types says of a root, also where it doesn't have the root's type.
-ghost use Rattle.std.specs.Prelude.{◌≡◌, ◌<◌, ◌≤◌, ◌+◌, ◌*◌, ◌/◌, ◌^◌, length, slice_get, IfSome};
+ghost use Rattle.std.specs.Prelude.{◌≡◌, ◌<◌, ◌≤◌, ◌+◌, ◌*◌, ◌/◌, ◌^◌, length, slice_get, pos, if◌then◌else◌, IfSome};
 ghost use Rattle.porch_types.specs.Leaves.{leaves_of};
 ghost use Rattle.porch_types.specs.Rows.{row_at, has_shared_end};
-ghost use Rattle.porch_objects.specs.Store.{leaves_in, zero_of};
+ghost use Rattle.porch_objects.specs.Store.{leaves_in, zero_of, null, number};
 ghost use Rattle.porch_live.specs.Views.{value_of, root_of};
 ghost use Rattle.porch_live.specs.inside.Rows.{IsNear, row_without_type};
 
@@ -36,11 +36,24 @@ pub(crate) fn zero_of(types: &Types, ty: u32) -> Value
     requires { ty < length types.now }
     ensures { value_of result ≡ zero_of (slice_get types.now ty) }
 {
+    if is_pointer(types, ty) {
+        Value::Null
+    } else {
+        Value::Number(0)
+    }
+}
+
+/// Whether a type is a pointer's.
+pub(crate) fn is_pointer(types: &Types, ty: u32) -> bool
+    requires { ty < length types.now }
+    ensures { zero_of (slice_get types.now ty)
+        ≡ (if result then null else number (pos 0)) }
+{
     match types.get(ty) {
-        Ty::Pointer { to: _ } => Value::Null,
-        Ty::Whole { kind: _ } => Value::Number(0),
-        Ty::Array { of: _, count: _ } => Value::Number(0),
-        Ty::Struct { members: _ } => Value::Number(0),
+        Ty::Pointer { to: _ } => true,
+        Ty::Whole { kind: _ } => false,
+        Ty::Array { of: _, count: _ } => false,
+        Ty::Struct { members: _ } => false,
     }
 }
 

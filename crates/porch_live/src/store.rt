@@ -3,7 +3,7 @@ ghost use Rattle.std.specs.Prelude.{◌≡◌, is_some, IfOk, OnOk, OnErr};
 ghost use Rattle.std.specs.Option.{option_map};
 ghost use Rattle.porch_objects.specs.Store.{store_of, object_at, seen, leaf_at, changed, forgotten, with_leaf_at, innermost, variable_home, entered, left, reached_one, with_blocks};
 ghost use Rattle.porch_objects.specs.Pointers.{allocate, release, without_block};
-ghost use Rattle.porch_live.specs.inside.Edits.{edited};
+ghost use Rattle.porch_live.specs.inside.Edits.{done};
 ghost use Rattle.porch_live.specs.Answers.{after, allocation_of};
 ghost use Rattle.porch_live.specs.Views.{home_of, value_of};
 
@@ -135,23 +135,26 @@ impl Store {
         set_last(&mut self.calls, variable as usize, value);
     }
 
-    /// Gives a leaf a value. Where there is no such leaf nothing changes.
-    pub fn set_leaf(&mut self, home: Home, leaf: u64, value: Value)
-        ensures { self.new ≡ with_leaf_at self.old (home_of home) leaf (value_of value) }
+    /// Gives a leaf a value. Where there is no such leaf nothing changes. A leaf of a large object may need
+    /// memory.
+    pub fn set_leaf(&mut self, home: Home, leaf: u64, value: Value) -> Result<(), AllocError>
+        ensures set { OnOk result (self.new
+            ≡ with_leaf_at self.old (home_of home) leaf (value_of value)) }
+        ensures same { OnErr result (self.new ≡ self.old) }
     {
-        self.edit(home, &Edit::Leaf { leaf, value });
+        self.edit(home, &Edit::Leaf { leaf, value })
     }
 
     /// All leaves of an object become indeterminate. Where there is no such object nothing changes.
     pub fn forget(&mut self, home: Home)
         ensures { self.new ≡ forgotten self.old (home_of home) }
     {
-        self.edit(home, &Edit::Forget);
+        let _ = self.edit(home, &Edit::Forget);
     }
 
-    /// Changes an object, where it lives.
-    pub(crate) fn edit(&mut self, home: Home, edit: &Edit)
-        ensures { self.new ≡ changed (edited edit.now) self.old (home_of home) }
+    /// Changes an object, where it lives. To forget takes no memory.
+    pub(crate) fn edit(&mut self, home: Home, edit: &Edit) -> Result<(), AllocError>
+        ensures { self.new ≡ changed (done edit.now result) self.old (home_of home) }
     {
         match home {
             Home::Global(global) => edit_one(&mut self.globals, global as usize, edit),

@@ -30,8 +30,8 @@ fn add(types: &mut Types, ty: Ty) -> Result<(), AllocError> {
 /// Global 0 is two rows of three ints without a value, global 1 the text "hi".
 fn store_with_globals(alloc: Global, types: &Types) -> Result<Store, AllocError> {
     let mut text = Object::zeroed(alloc, types, Root { ty: 9, count: 1 })?;
-    text.set_leaf(0, Value::Number(104));
-    text.set_leaf(1, Value::Number(105 + 256));
+    text.set_leaf(0, Value::Number(104))?;
+    text.set_leaf(1, Value::Number(105 + 256))?;
     let mut globals = Vec::new(alloc);
     push(
         &mut globals,
@@ -72,15 +72,15 @@ fn try_leaves<R: Abort>(
 ) -> Result<(), AllocError> {
     assert!(rt; matches!(store.load(global(0, 1)), Err(Act::Indeterminate)));
     assert!(rt; matches!(store.load(Value::Null), Err(Act::Access)));
-    assert!(rt; matches!(store.store(global(0, 1), Value::Number(5)), Ok(())));
+    assert!(rt; matches!(store.store(global(0, 1), Value::Number(5))?, Ok(())));
     assert!(rt; matches!(store.load(global(0, 1)), Ok(Value::Number(5))));
     assert!(rt;
         matches!(
-            store.store(global(0, 1), Value::Indeterminate),
+            store.store(global(0, 1), Value::Indeterminate)?,
             Err(Act::Indeterminate)
         )
     );
-    assert!(rt; matches!(store.store(Value::Null, Value::Null), Err(Act::Access)));
+    assert!(rt; matches!(store.store(Value::Null, Value::Null)?, Err(Act::Access)));
     assert!(rt; matches!(store.leaf(Home::Global(0), 1), Value::Number(5)));
     assert!(rt; matches!(store.leaf(Home::Global(0), 6), Value::Indeterminate));
     assert!(rt; matches!(store.copy(alloc, 2, global(0, 3), global(0, 0))?, Ok(())));
@@ -187,14 +187,14 @@ fn try_texts<R: Abort>(
         .text(alloc, types, CHAR, global(1, 0))?
         .expect(rt, "no act");
     assert!(rt; text.as_slice() == b"hi".as_slice());
-    store.set_leaf(Home::Global(1), 2, Value::Number(33));
+    store.set_leaf(Home::Global(1), 2, Value::Number(33))?;
     assert!(rt;
         matches!(
             store.text(alloc, types, CHAR, global(1, 0))?,
             Err(Act::Access)
         )
     );
-    store.set_leaf(Home::Global(1), 1, Value::Indeterminate);
+    store.set_leaf(Home::Global(1), 1, Value::Indeterminate)?;
     assert!(rt;
         matches!(
             store.text(alloc, types, CHAR, global(1, 0))?,
@@ -242,7 +242,7 @@ fn try_calls<R: Abort>(
         home: outer,
         leaf: 0,
     };
-    store.set_leaf(outer, 0, Value::Number(7));
+    store.set_leaf(outer, 0, Value::Number(7))?;
     assert!(rt; matches!(store.load(variable), Ok(Value::Number(7))));
     store.leave();
     assert!(rt; store.innermost() == 0);

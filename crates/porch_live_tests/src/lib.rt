@@ -5,4 +5,6 @@
 #[cfg(test)]
 mod calls;
 #[cfg(test)]
+mod large;
+#[cfg(test)]
 mod long_runs;

@@ -25,7 +25,7 @@ fn a_million_allocations_end(rt: HostRuntime) -> Result<(), Fail> {
             let block = store
                 .allocate(alloc, &types, INT, true, 1)?
                 .expect(&rt, "no act");
-            store.store(block, Value::Number(1)).expect(&rt, "no act");
+            store.store(block, Value::Number(1))?.expect(&rt, "no act");
             store.release(*slot).expect(&rt, "no act");
             *slot = block;
         }

@@ -34,8 +34,9 @@ pub(crate) fn labels_of(alloc: Global, functions: &[Function]) -> Result<Vec<Lab
 }
 
 // A leaf of a global gets what it is initialised with.
-fn put_init(object: &mut Object, init: Init)
-    ensures { object.new ≡ with_leaves object.old (with_init object.old.leaves init) }
+fn put_init(object: &mut Object, init: Init) -> Result<(), AllocError>
+    ensures { OnOk result (object.new
+        ≡ with_leaves object.old (with_init object.old.leaves init)) }
 {
     match init {
         Init::Value(leaf, number) => object.set_leaf(u64::from(leaf), Value::Number(number)),
@@ -49,12 +50,14 @@ fn put_init(object: &mut Object, init: Init)
     }
 }
 
-fn put_inits(object: &mut Object, inits: &[Init])
-    ensures { object.new ≡ with_leaves object.old (with_inits object.old.leaves inits.now) }
+fn put_inits(object: &mut Object, inits: &[Init]) -> Result<(), AllocError>
+    ensures { OnOk result (object.new
+        ≡ with_leaves object.old (with_inits object.old.leaves inits.now)) }
 {
     for at in 0..inits.len() {
-        put_init(object, inits[at]);
+        put_init(object, inits[at])?;
     }
+    Ok(())
 }
 
 fn new_global(alloc: Global, types: &Types, global: &GlobalObject) -> Result<Object, AllocError>
@@ -65,7 +68,7 @@ fn new_global(alloc: Global, types: &Types, global: &GlobalObject) -> Result<Obj
         count: 1,
     };
     let mut object = Object::zeroed(alloc, types, root)?;
-    put_inits(&mut object, global.inits.as_slice());
+    put_inits(&mut object, global.inits.as_slice())?;
     Ok(object)
 }
 

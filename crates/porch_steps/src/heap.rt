@@ -53,11 +53,12 @@ impl Run {
         let value = operand(flat, self, ty, *read);
         let pointer = variable(self, to);
         match self.store.store(pointer, value) {
-            Ok(()) => {
+            Ok(Ok(())) => {
                 self.frame.next += 1;
                 Ok(AStep::Went)
             }
-            Err(act) => Ok(AStep::Act { act }),
+            Ok(Err(act)) => Ok(AStep::Act { act }),
+            Err(error) => Err(error),
         }
     }
 

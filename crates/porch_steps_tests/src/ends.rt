@@ -3,6 +3,7 @@
 ghost use Rattle.porch_steps.specs.Held.{Fits};
 
 use crate::kept::KEPT;
+use crate::large::LARGE;
 use crate::made_five::MADE_FIVE;
 use crate::made_four::MADE_FOUR;
 use crate::made_one::MADE_ONE;
@@ -139,6 +140,14 @@ fn small_programs_end_as_they_have_to(rt: HostRuntime) -> Result<(), Fail> {
 #[test]
 fn programs_with_checkpoints_end_as_they_have_to(rt: HostRuntime) -> Result<(), Fail> {
     for program in &KEPT {
+        try_program(&rt, rt.alloc(), program)?;
+    }
+    Ok(())
+}
+
+#[test]
+fn programs_with_large_objects_end_as_they_have_to(rt: HostRuntime) -> Result<(), Fail> {
+    for program in &LARGE {
         try_program(&rt, rt.alloc(), program)?;
     }
     Ok(())

@@ -6,6 +6,8 @@ mod ends;
 #[cfg(test)]
 mod kept;
 #[cfg(test)]
+mod large;
+#[cfg(test)]
 mod made_five;
 #[cfg(test)]
 mod made_four;

@@ -1,10 +1,11 @@
 -- Changes of objects.
-use Rattle.std.specs.Prelude.{ℕ, ◌+◌, Bool, false, Option, Some, None, nat_le, if◌then◌else◌, List, ◌++◌, take, drop, length, map, replicate, slice_set}
+use Rattle.std.specs.Prelude.{ℕ, ◌+◌, Bool, false, Option, Some, None, Result, Ok, Err, nat_le, if◌then◌else◌, List, ◌++◌, take, drop, length, map, replicate, slice_set}
 use Rattle.porch_objects.specs.Store.{Value, Object, indeterminate, with_leaves}
 use Rattle.porch_objects.specs.Pointers.{spliced}
 use Rattle.porch_live.specs.declared.value.Value as code
 use Rattle.porch_live.specs.declared.edit.Edit.{Edit}
 use Rattle.porch_live.specs.declared.edit.Edit.TheVariants.{Leaf, Part, Forget}
+use Rattle.std.specs.declared.alloc.AllocError.{AllocError}
 use Rattle.porch_live.specs.Views.{value_of}
 
 -- leaves from one on become others, where the object has all of them
@@ -29,3 +30,11 @@ abbrev pub edited : Edit → Object → Object
 edited (Leaf leaf value) object = with_leaves object (slice_set object.leaves leaf (value_of value))
 edited (Part at values) object = with_part at (map value_of values.items) object
 edited Forget object = with_leaves object (replicate (length object.leaves) indeterminate)
+
+-- what is done where memory for it may be refused: forgetting takes none
+abbrev pub done : Edit → Result (Unit {0}) AllocError → Object → Object
+done Forget answer object = edited Forget object
+done (Leaf leaf value) (Ok unit) object = edited (Leaf leaf value) object
+done (Leaf leaf value) (Err refused) object = object
+done (Part at values) (Ok unit) object = edited (Part at values) object
+done (Part at values) (Err refused) object = object

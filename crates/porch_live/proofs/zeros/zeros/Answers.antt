@@ -2,7 +2,7 @@ use Rattle.std.proofs.Common.{slice_get, ap, ◌∙◌}
 use Rattle.porch_types.specs.LeafTypes.{leaf_type}
 use Rattle.porch_objects.specs.Store.{zero_of}
 use Rattle.porch_live.proofs.Alike.{one_more}
-use Rattle.porch_live.proofs.object.zeros.Goals as goal
+use Rattle.porch_live.proofs.zeros.zeros.Goals as goal
 
 pub loop-leaf-preserved : goal.loop-leaf-preserved
 loop-leaf-preserved c =

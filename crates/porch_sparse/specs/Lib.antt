@@ -1,0 +1,3 @@
+-- a pattern over and over
+pub mod Repeated
+pub mod inside
