@@ -120,11 +120,16 @@ fn check_data(
         image.blocks(),
         image.bytes(),
     )?;
-    check_values(metrics, &Roots::from_vec(roots), image)
+    check_values(alloc, metrics, &Roots::from_vec(roots), image)
 }
 
 /// Refuses a checkpoint with a word that names nothing, or a long value that has no room.
-fn check_values(metrics: &Metrics, objects: &Roots, image: &Image) -> Result<(), ImageFault>
+fn check_values(
+    alloc: Global,
+    metrics: &Metrics,
+    objects: &Roots,
+    image: &Image,
+) -> Result<(), ImageFault>
     requires placed { ArePlaced metrics.now.types objects.now.items }
     requires pointees { ArePointees metrics.now.types }
     requires inside { EndWithin metrics.now.types objects.now.items (length image.now.bytes) }
@@ -132,15 +137,16 @@ fn check_values(metrics: &Metrics, objects: &Roots, image: &Image) -> Result<(),
         (IsFaultless sought.Words metrics.now.types objects.now.items image.now) }
     ensures values { OnOk result (IsFaultless (sought.Values metrics.now.layout.long)
         metrics.now.types objects.now.items image.now) }
-    ensures flaw { IfErr result (λ fault.
-        IsFirstFaulty sought.Words metrics.now.types objects.now.items image.now fault
+    ensures flaw { IfErr result (λ fault. (fault ≡ ImageFault.NoMemory)
+        ⊎ (IsFirstFaulty sought.Words metrics.now.types objects.now.items image.now fault
         ⊎ (IsFaultless sought.Words metrics.now.types objects.now.items image.now
         × IsFirstFaulty (sought.Values metrics.now.layout.long) metrics.now.types
-        objects.now.items image.now fault)) }
+        objects.now.items image.now fault))) }
 {
     let layout = metrics.layout();
-    check_leaves(Sought::Words, metrics, objects, image)?;
+    check_leaves(alloc, Sought::Words, metrics, objects, image)?;
     check_leaves(
+        alloc,
         Sought::Values { long: layout.long },
         metrics,
         objects,
