@@ -1,9 +1,10 @@
 -- A file without a flaw is the file of what it holds, and the file of a good checkpoint has none.
-use Rattle.std.specs.Prelude.{◌≡◌, ℕ, ◌+◌, ◌^◌, ◌<◌, ◌≤◌, ◌++◌, List, length, take, get_or, All, None}
+use Rattle.std.specs.Prelude.{◌≡◌, ◌⊎◌, ℕ, ◌+◌, ◌^◌, ◌<◌, ◌≤◌, ◌++◌, List, length, take, get_or, All, None, Result, Ok, Err}
 use Rattle.sha2.specs.Sha256.{sha256}
 use Rattle.porch_flat.specs.declared.whole.Flat.{Flat}
 use Rattle.porch_flat_line.specs.Text.{Text}
 use Rattle.porch_ucf.specs.declared.fault.ImageFault.{ImageFault}
+use Rattle.porch_ucf.specs.declared.fault.ImageFault.TheVariants.{NoMemory}
 use Rattle.porch_ucf.specs.declared.image.FrameRow.{FrameRow}
 use Rattle.porch_ucf.specs.declared.image.BlockRow.{BlockRow}
 use Rattle.porch_ucf.specs.declared.write.TheConstants.{SEAL_BYTES}
@@ -66,6 +67,10 @@ abbrev pub FilesAreReadBack : Type 0
 FilesAreReadBack =
     (long : ℕ) (program : Flat) (c : Checkpoint) (rest : List ℕ)
     → IsReadable long program c → IsReadBack long program c (file_of c ++ rest)
+
+-- reading a file answers this checkpoint, or that there is no memory
+abbrev pub IsReadTo : Checkpoint → Result Checkpoint ImageFault → Type 0
+IsReadTo c result = (result ≡ Err NoMemory) ⊎ (result ≡ Ok c)
 
 -- a file without a flaw has no first flaw, and none has two
 abbrev pub FlawlessFilesHaveNoFlaw : Type 0
