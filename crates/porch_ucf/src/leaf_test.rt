@@ -64,7 +64,8 @@ fn room_test(metrics: &Metrics, ty: u32, long: u8) -> Option<LeafTest>
     requires known { ty < length metrics.now.types }
     ensures test { IfSome result (IsTestOf (Sought.Values long) (slice_get metrics.now.types ty)) }
     ensures can { IfSome result (CanTest metrics.now.types) }
-    ensures none { IfNone result (IsUntested (Sought.Values long) (slice_get metrics.now.types ty)) }
+    ensures none { IfNone result
+        (IsUntested (Sought.Values long) (slice_get metrics.now.types ty)) }
 {
     match metrics.types().get(ty) {
         Ty::Whole { kind } => room_test_of(*kind, long),
