@@ -7,3 +7,8 @@ pub mod FirstLeaf
 pub mod PlacedInOrder
 pub mod Flawless
 pub mod Spelled
+pub mod ReadBack
+pub mod OneFlaw
+pub mod RunsInOrder
+pub mod RunByRun
+pub mod Stretches

@@ -11,7 +11,7 @@ use Rattle.porch_ucf.specs.declared.image.BlockRow.{BlockRow}
 use Rattle.porch_ucf.specs.Objects.{Placed, put_behind, nothing_placed, placed}
 use Rattle.porch_ucf.specs.inside.Leaves.{ArePlaced, EndWithin}
 
-at_end : {X : Type 0} (xs : List X) (x : X) (i : ℕ) (a : X) → slice_get (xs ++ x ∷ []) i ≡ Some a → (slice_get xs i ≡ Some a) ⊎ ((i ≡ length xs) × (x ≡ a))
+pub at_end : {X : Type 0} (xs : List X) (x : X) (i : ℕ) (a : X) → slice_get (xs ++ x ∷ []) i ≡ Some a → (slice_get xs i ≡ Some a) ⊎ ((i ≡ length xs) × (x ≡ a))
 at_end [] x zero a e = inr (refl, same_Some x a e)
 at_end [] x (suc i) a e = absurd (none-some a e)
 at_end (y ∷ xs) x zero a e = inl e

@@ -8,12 +8,14 @@ mod front;
 mod header;
 mod image;
 mod laws;
+mod leaf_test;
 mod leaves;
 mod placing;
 mod read;
 mod resumable;
 mod room;
 mod rows;
+mod runs;
 mod write;
 
 pub use fault::{ImageFault, Reason};
@@ -24,7 +26,7 @@ pub use header::{
     put_header, read_header,
 };
 pub use image::{BlockRow, FrameRow, Image};
-pub use laws::files_are_spelled;
+pub use laws::{files_are_read_back, files_are_spelled, first_flaws_are_one};
 pub use read::read_image;
 pub use resumable::MOST_COUNT;
 pub use write::{SEAL_BYTES, write_image};

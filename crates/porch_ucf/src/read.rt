@@ -1,14 +1,18 @@
 //! Reading a checkpoint.
 
-ghost use Rattle.std.specs.Prelude.{◌≡◌, ◌≤◌, ◌<◌, ◌+◌, ◌-◌, ◌⊎◌, ℕ, length, drop, take, All, IfOk, IfErr, OnOk, None, Some};
+ghost use Rattle.std.specs.Prelude.{◌≡◌, ◌≤◌, ◌<◌, ◌+◌, ◌-◌, ◌⊎◌, ◌++◌, ℕ, List, length, drop, take, All, IfOk, IfErr, OnOk, None, Some};
 ghost use Rattle.porch_flat.specs.declared.whole.Sort.TheVariants as sort;
 ghost use Rattle.porch_flat.specs.whole.Rules.{IsValid};
 ghost use Rattle.porch_layout.specs.Layouts.{IsLayout};
 ghost use Rattle.porch_ucf.specs.declared.leaves.Sought.TheVariants as sought;
 ghost use Rattle.porch_ucf.specs.DataFlaws.{IsFaultless, IsFirstFaulty};
+ghost use Rattle.sha2.specs.Sha256.{sha256};
+ghost use Rattle.porch_flat_line.specs.Text.{Text};
+ghost use Rattle.porch_ucf.specs.Files.{file_of};
 ghost use Rattle.porch_ucf.specs.FirstFlaw.{IsFirstFlaw, IsFlawless};
 ghost use Rattle.porch_ucf.specs.Headers.{header_of};
-ghost use Rattle.porch_ucf.specs.Images.{rows_size};
+ghost use Rattle.porch_ucf.specs.Images.{Checkpoint, rows_size};
+ghost use Rattle.porch_ucf.specs.Laws.{IsReadable, IsReadTo};
 ghost use Rattle.porch_ucf.specs.Reading.{bytes_in, image_of};
 ghost use Rattle.porch_ucf.specs.inside.Checked.{IsDataFlaw, IsDataSound, IsFlaw, IsSound};
 ghost use Rattle.porch_ucf.specs.inside.Leaves.{ArePlaced, ArePointees, EndWithin};
@@ -18,6 +22,7 @@ use crate::fault::ImageFault;
 use crate::front::{read_front, rows_size};
 use crate::header::{HEADER_BYTES, Header};
 use crate::image::Image;
+use crate::laws::{files_are_read_back, first_flaws_are_one};
 use crate::leaves::{Sought, check_leaves};
 use crate::resumable::{check_blocks, check_frames};
 use crate::rows::{read_blocks, read_frames};
@@ -30,6 +35,30 @@ use std::alloc::Global;
 
 /// The checkpoint of an open file, for the program whose text has this digest, or the file's first flaw.
 pub fn read_image(
+    alloc: Global,
+    program: &Valid,
+    digest: &[u8; 32],
+    text: &[u8],
+    layout: &Layout,
+) -> Result<Image, ImageFault>
+    requires open { SEAL_BYTES ≤ length text.now }
+    requires layout { IsLayout layout.now }
+    ensures image { IfOk result (λ image. image ≡ image_of text.now) }
+    ensures sound { OnOk result
+        (IsFlawless layout.now.long program.now digest.now text.now) }
+    ensures flaw { IfErr result (λ fault. (fault ≡ ImageFault.NoMemory)
+        ⊎ IsFirstFlaw layout.now.long program.now digest.now text.now fault) }
+    ensures again { (c : Checkpoint) (rest : List ℕ)
+        → IsReadable layout.now.long program.now c → digest.now ≡ sha256 (Text program.now)
+        → text.now ≡ file_of c ++ rest → IsReadTo c result }
+{
+    files_are_read_back();
+    first_flaws_are_one();
+    read_flawless(alloc, program, digest, text, layout)
+}
+
+/// The same, by the flaws of the file.
+fn read_flawless(
     alloc: Global,
     program: &Valid,
     digest: &[u8; 32],
@@ -120,11 +149,16 @@ fn check_data(
         image.blocks(),
         image.bytes(),
     )?;
-    check_values(metrics, &Roots::from_vec(roots), image)
+    check_values(alloc, metrics, &Roots::from_vec(roots), image)
 }
 
 /// Refuses a checkpoint with a word that names nothing, or a long value that has no room.
-fn check_values(metrics: &Metrics, objects: &Roots, image: &Image) -> Result<(), ImageFault>
+fn check_values(
+    alloc: Global,
+    metrics: &Metrics,
+    objects: &Roots,
+    image: &Image,
+) -> Result<(), ImageFault>
     requires placed { ArePlaced metrics.now.types objects.now.items }
     requires pointees { ArePointees metrics.now.types }
     requires inside { EndWithin metrics.now.types objects.now.items (length image.now.bytes) }
@@ -132,15 +166,16 @@ fn check_values(metrics: &Metrics, objects: &Roots, image: &Image) -> Result<(),
         (IsFaultless sought.Words metrics.now.types objects.now.items image.now) }
     ensures values { OnOk result (IsFaultless (sought.Values metrics.now.layout.long)
         metrics.now.types objects.now.items image.now) }
-    ensures flaw { IfErr result (λ fault.
-        IsFirstFaulty sought.Words metrics.now.types objects.now.items image.now fault
+    ensures flaw { IfErr result (λ fault. (fault ≡ ImageFault.NoMemory)
+        ⊎ (IsFirstFaulty sought.Words metrics.now.types objects.now.items image.now fault
         ⊎ (IsFaultless sought.Words metrics.now.types objects.now.items image.now
         × IsFirstFaulty (sought.Values metrics.now.layout.long) metrics.now.types
-        objects.now.items image.now fault)) }
+        objects.now.items image.now fault))) }
 {
     let layout = metrics.layout();
-    check_leaves(Sought::Words, metrics, objects, image)?;
+    check_leaves(alloc, Sought::Words, metrics, objects, image)?;
     check_leaves(
+        alloc,
         Sought::Values { long: layout.long },
         metrics,
         objects,

@@ -1,6 +1,7 @@
-use Rattle.std.proofs.Common.{rules, ◌<◌, List, length, get_or, ap, subst, arith}
+use Rattle.std.proofs.Common.{rules, ◌≡◌, ◌<◌, ◌⊎◌, inl, inr, List, length, get_or, ap, subst, arith}
 use Rattle.porch_find.specs.declared.roots.Root.{Root}
-use Rattle.porch_ucf.specs.DataFlaws.{leaf_count}
+use Rattle.porch_ucf.specs.declared.fault.ImageFault.TheVariants.{NoMemory}
+use Rattle.porch_ucf.specs.DataFlaws.{IsFirstFaulty, leaf_count}
 use Rattle.porch_ucf.specs.inside.Leaves.{IsFirstOf, IsSoundBelow}
 use Rattle.porch_ucf.proofs.FirstLeaf.{all_before, first_here, none_on}
 use Rattle.porch_ucf.proofs.leaves.check_leaves.Goals as goal
@@ -12,9 +13,15 @@ returns-in_err-check_object-clause-first c =
     let none : Root = record { at = 0; ty = 0; count = 0 } in
     let i = c.loop-object.object-index in
     let lt : i < length objects = subst (λ (l : List Root). i < length l) c.as_slice-object-items.ensures c.loop-object-test.true in
-    let here = subst (λ (l : List Root). IsFirstOf c.args.sought m.types objects c.args.image.now (get_or l i none) c.in_err-check_object.field-0.0) c.as_slice-object-items.ensures c.in_err-check_object.ensures.first in
-    let found = first_here c.args.sought m.types objects c.args.image.now i none c.in_err-check_object.field-0.0 lt c.loop-object.invariant here in
-    search (rules, found)
+    let fault = c.in_err-check_object.field-0.0 in
+    let answer : (fault ≡ NoMemory) ⊎ IsFirstFaulty c.args.sought m.types objects c.args.image.now fault =
+    elim c.in_err-check_object.ensures.first [
+      | inl memory ↦ inl memory
+      | inr first ↦
+          let here = subst (λ (l : List Root). IsFirstOf c.args.sought m.types objects c.args.image.now (get_or l i none) fault) c.as_slice-object-items.ensures first in
+          inr (first_here c.args.sought m.types objects c.args.image.now i none fault lt c.loop-object.invariant here)
+    ] in
+    search (rules, answer)
 
 pub loop-object-preserved : goal.loop-object-preserved
 loop-object-preserved c =

@@ -11,7 +11,7 @@ use Rattle.porch_ucf.specs.declared.leaves.Sought.TheVariants as sought
 use Rattle.porch_ucf.specs.DataFlaws.{IsFaultless, IsFirstFaulty}
 use Rattle.porch_ucf.specs.Images.{Checkpoint}
 use Rattle.porch_ucf.specs.Objects.{objects_of, placed}
-use Rattle.porch_ucf.specs.inside.Checked.{in_data_words, in_data_values, data_size_flaw}
+use Rattle.porch_ucf.specs.inside.Checked.{data_memory, in_data_words, in_data_values, data_size_flaw}
 use Rattle.porch_ucf.specs.inside.Leaves.{ArePlaced, ArePointees, EndWithin}
 use Rattle.porch_ucf.proofs.Known.{objects_known_in, pointees_known}
 use Rattle.porch_ucf.proofs.PlacedInOrder.{are_placed, end_within}
@@ -89,6 +89,9 @@ returns-clause-flaw c =
     λ P p. along P program.types c.args.metrics.now.types (placed program.types objects).roots c.from_vec.result.items (sym c.requires.types) (sym items) p in
     MatchResult-weaker c.check_values-2.result c.check_values-2.ensures.flaw (λ x u. u)
     (λ fault flaw. elim flaw [
-      | inl words ↦ in_data_words size (here (First sought.Words fault) words)
-      | inr values ↦ in_data_values size (here (Sound sought.Words) values.0) (here (First (sought.Values long) fault) values.1)
+      | inl none ↦ data_memory none
+      | inr real ↦ elim real [
+        | inl words ↦ in_data_words size (here (First sought.Words fault) words)
+        | inr values ↦ in_data_values size (here (Sound sought.Words) values.0) (here (First (sought.Values long) fault) values.1)
+      ]
     ])
