@@ -1,22 +1,19 @@
 -- Arguments are read before the new frame, so that what is written there leaves them as they are.
-use Rattle.std.proofs.Common.{◌≡◌, ◌≤◌, ℕ, ◌+◌, List, [], ◌∷◌, length, refl, sym, ap, ◌∙◌, arith}
+use Rattle.std.proofs.Common.{◌≡◌, ◌≤◌, ℕ, ◌+◌, List, [], ◌∷◌, length, refl, ap, ◌∙◌, arith}
 use Rattle.std.specs.Prelude.{ℤ, map, replicate}
 use Rattle.std.proofs.lemmas.List.{length-replicate}
-use Rattle.porch_flat.specs.declared.whole.Flat.{Flat}
-use Rattle.porch_bytes.specs.Leaf.{part, spliced, decoded, encoded, PartsStay, OthersStay, NumbersHaveSizes}
+use Rattle.porch_bytes.specs.Leaf.{spliced, decoded, encoded, PartsStay, OthersStay, NumbersHaveSizes}
 use Rattle.porch_bytes.specs.Shapes.{size_in, has_sign_in}
-use Rattle.porch_bytes.specs.State.{Setting, Frame}
-use Rattle.porch_bytes.specs.Column.{with_variable, with_variables}
+use Rattle.porch_bytes.specs.Column.{with_variables}
 use Rattle.porch_instructions.specs.declared.instruction.Cell.{Cell}
 use Rattle.porch_instructions.specs.declared.instruction.Source.{Source}
 use Rattle.porch_instructions.specs.declared.instruction.Source.TheVariants as source
 use Rattle.porch_instructions.specs.declared.instruction.Context.{Context}
-use Rattle.porch_instructions.specs.declared.scope.Scope.{Scope}
 use Rattle.porch_instructions.specs.Instructions.{source_value, with_cell, SourceLies, LiesWithin}
-use Rattle.porch_instructions.specs.Resolved.{context_of, IsScope}
+use Rattle.porch_instructions.specs.Resolved.{context_of}
 use Rattle.porch_instructions.specs.Variables.{IsVariable, CellsAreVariables}
 use Rattle.porch_frames.specs.declared.passing.Passing.{Passing}
-use Rattle.porch_frames.specs.Passing.{in_frame, passed, EndsBefore, IsPassing, ArePassings, AgreeBelow, AreParameters, ArgumentsArePassed}
+use Rattle.porch_frames.specs.Passing.{in_frame, passed, EndsBefore, ArePassings, AgreeBelow, ArgumentsArePassed}
 
 -- an argument is the same in memory that agrees before the frame
 pub same_value : (here : Context) (at : ℕ) (old new : List ℕ) → AgreeBelow at old new → (from : Source) → SourceLies (EndsBefore here at) from

@@ -1,5 +1,5 @@
 -- How the arguments of a call go to the parameters of a new frame.
-use Rattle.std.specs.Prelude.{ℕ, ◌≡◌, ◌≤◌, ◌+◌, ℤ, List, [], ◌∷◌, map, ⊤}
+use Rattle.std.specs.Prelude.{ℕ, ◌≡◌, ◌≤◌, ◌+◌, List, [], ◌∷◌, map, ⊤}
 use Rattle.porch_flat.specs.declared.whole.Flat.{Flat}
 use Rattle.porch_bytes.specs.Leaf.{part}
 use Rattle.porch_bytes.specs.Shapes.{size_in}
