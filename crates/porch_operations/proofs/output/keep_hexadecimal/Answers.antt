@@ -1,4 +1,4 @@
-use Rattle.std.proofs.Common.{◌≡◌, ◌<◌, ℕ, ◌+◌, ◌-◌, ◌/◌, ◌%◌, List, ◌∷◌, length, sym, ap, ◌∙◌, arith, le_trans, false}
+use Rattle.std.proofs.Common.{◌≡◌, ◌<◌, ℕ, ◌+◌, ◌-◌, ◌/◌, ◌%◌, List, ◌∷◌, length, ap, ◌∙◌, arith, false}
 use Rattle.std.specs.Fmt.{digits_onto, digit_glyph}
 use Rattle.porch_operations.proofs.Hexadecimal.{goes_on}
 use Rattle.porch_operations.proofs.output.keep_hexadecimal.Goals as goal
