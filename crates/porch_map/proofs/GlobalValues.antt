@@ -1,5 +1,5 @@
 -- The values that are put by the places of globals are those of the program.
-use Rattle.std.proofs.Common.{◌≡◌, ℕ, ◌+◌, List, [], ◌∷◌, refl, sym, ap, ◌∙◌}
+use Rattle.std.proofs.Common.{◌≡◌, ℕ, ◌+◌, List, [], ◌∷◌, refl, ap, ◌∙◌}
 use Rattle.porch_types.specs.declared.shapes.Ty.{Ty}
 use Rattle.porch_layout.specs.declared.layout.Layout.{Layout}
 use Rattle.porch_flat.specs.declared.flat.Init.{Init}
@@ -8,7 +8,6 @@ use Rattle.porch_flat.specs.declared.flat.GlobalObject.{GlobalObject}
 use Rattle.porch_flat.specs.declared.whole.Flat.{Flat}
 use Rattle.porch_bytes.specs.Memory.{FIRST_GLOBAL, extent, places_from, global_types, place_of_global}
 use Rattle.porch_bytes.specs.State.{Setting, with_init, with_inits, with_globals}
-use Rattle.porch_map.specs.Known.{IsMeasured, HasGlobals}
 use Rattle.porch_map.specs.Values.{with_first, with_all, with_values, ValuesAreOfGlobals}
 
 module _ (flat : Flat) (on : Setting) where
