@@ -1,7 +1,4 @@
 pub mod OneRun
-pub mod Resolving
-pub mod Signs
 pub mod Parts
-pub mod FineFits
-pub mod Convex
+pub mod Conjunctions
 pub mod ReadBack

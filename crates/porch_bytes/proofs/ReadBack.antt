@@ -8,7 +8,7 @@ use Rattle.porch_bytes.specs.declared.shape.Shape.TheVariants.{I8, U8, I16, U16,
 use Rattle.porch_bytes.specs.Leaf.{number_of, digits, encoded, decoded, part, spliced, PartsStay}
 use Rattle.porch_bytes.specs.Shapes.{size_in, has_sign_in, is_in_shape, NumbersAreReadBack}
 use Rattle.porch_bytes.proofs.Parts.{parts_stay, encoded_length}
-use Rattle.porch_bytes.proofs.Convex.{first, second}
+use Rattle.porch_bytes.proofs.Conjunctions.{first, second}
 
 -- a number from its low bits
 value : (whole half m : ℕ) → ℤ

@@ -18,5 +18,3 @@ pub mod Fits
 pub mod StandsFor
 -- programs that are worked out
 pub mod Worked
--- what only private contracts cite
-pub mod inside

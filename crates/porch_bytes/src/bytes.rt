@@ -24,18 +24,22 @@ fn end_of_text(bytes: &[u8]) -> Option<usize>
 }
 
 /// Makes so many bytes 0.
+#[tactic(auto, using(crate::proofs::Parts::length_cleared))]
 pub fn clear(memory: &mut [u8], at: usize, size: usize)
     requires { at + size ≤ length memory.old }
-    ensures { memory.new ≡ spliced memory.old at (replicate size 0) }
+    ensures bytes { memory.new ≡ spliced memory.old at (replicate size 0) }
+    ensures length { length memory.new ≡ length memory.old }
 {
     memory[at..at + size].fill(0);
 }
 
 /// Copies so many bytes from one address to another; the two may overlap.
+#[tactic(auto, using(crate::proofs::Parts::length_copied))]
 pub fn copy_bytes(memory: &mut [u8], from: usize, to: usize, size: usize)
     requires from { from + size ≤ length memory.old }
     requires to { to + size ≤ length memory.old }
-    ensures { memory.new ≡ spliced memory.old to (part memory.old from size) }
+    ensures bytes { memory.new ≡ spliced memory.old to (part memory.old from size) }
+    ensures length { length memory.new ≡ length memory.old }
 {
     memory.copy_within(from..from + size, to);
 }

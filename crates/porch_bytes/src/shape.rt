@@ -55,9 +55,11 @@ pub fn read_number(memory: &[u8], at: usize, shape: Shape, big: bool) -> i128
 }
 
 /// Puts the low bits of a number at an address.
+#[tactic(auto, using(crate::proofs::Parts::length_with_number))]
 pub fn write_number(memory: &mut [u8], at: usize, shape: Shape, big: bool, value: i128)
     requires { at + size_in shape ≤ length memory.old }
-    ensures { memory.new ≡ with_number_in big shape memory.old at value }
+    ensures bytes { memory.new ≡ with_number_in big shape memory.old at value }
+    ensures length { length memory.new ≡ length memory.old }
 {
     match shape {
         Shape::I8 | Shape::U8 => write_low_8(memory, at, big, value),

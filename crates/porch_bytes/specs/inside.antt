@@ -1,3 +1,0 @@
--- what the resolved commands do to memory
-pub mod Instructions
-pub mod Resolved

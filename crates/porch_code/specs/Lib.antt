@@ -1,0 +1,2 @@
+-- when code does what the commands of a function do
+pub mod Code

@@ -1,0 +1,4 @@
+pub mod Resolving
+pub mod Signs
+pub mod FineFits
+pub mod Convex
