@@ -7,3 +7,5 @@ mod Built
 mod Outermost
 mod Keys
 mod Voids
+mod Fronts
+mod Ends

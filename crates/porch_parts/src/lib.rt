@@ -1,6 +1,7 @@
 //! From tokens to expressions, types and declarators, which lie in one another.
 //!
-//! `expression` reads the tokens of an expression, one after another. `part` has what is still to be
+//! `read_token` is one step of the reader, over the tokens of an expression or a type that stands in a part of
+//! another kind: `specs/Ends` says where it begins and ends. `expression` reads the tokens of an expression, one after another. `part` has what is still to be
 //! ended in a type or a declarator and what stands in front of the next token, `ended` how parts end,
 //! `step` what a token does, and `reader` goes from expressions to types and back. `specs/Types` and
 //! `specs/Parts` are the same as definitions over the tokens, and `laws` says that the run over the tokens
@@ -8,6 +9,7 @@
 #![tactic(auto)]
 
 mod ended;
+mod found;
 mod laws;
 mod part;
 mod reader;
@@ -17,8 +19,13 @@ mod step;
 mod types;
 mod worked;
 
-pub use laws::expressions_are_built;
+pub use found::{Found, begin_declared, begin_single, begin_typed, begin_whole, found_in};
+pub use laws::{
+    bases_end, declarators_end, expressions_are_built, single_expressions_end,
+    typed_declarators_end, whole_expressions_end,
+};
 pub use part::{Declaring, Form, Front, Part, Point};
-pub use reader::{Reader, Turn};
+pub use reader::{Reader, Turn, read_token};
 pub use reading::expression;
-pub use sign::Sign;
+pub use sign::{Sign, sign_at};
+pub use types::begins;
