@@ -9,3 +9,4 @@ mod Keys
 mod Voids
 mod Fronts
 mod Ends
+mod Starts

@@ -7,6 +7,7 @@ ghost use Rattle.porch_tree.specs.Formed.{IsExpr};
 ghost use Rattle.porch_tree.specs.Names.{ReadsExpr};
 ghost use Rattle.porch_tree.specs.Grammar.{AreMatched};
 ghost use Rattle.porch_parts.specs.Parts.{expression_of};
+ghost use Rattle.porch_parts.specs.Starts.{BasesStart, PlainsStart};
 ghost use Rattle.porch_parts.specs.Ends.{WholesEnd, SinglesEnd, TypedEnd, BasesEnd, DeclaredEnd};
 
 /// Of the tokens of an expression comes this expression, the types in it and all that lies in them
@@ -47,4 +48,16 @@ pub fn bases_end()
 #[tactic(auto, using(crate::proofs::Ends::declared_ends))]
 pub fn declarators_end()
     ensures ends { DeclaredEnd }
+{}
+
+/// A type can begin with the first token of each base.
+#[tactic(auto, using(crate::proofs::Starts::bases_start))]
+pub fn bases_start()
+    ensures start { BasesStart }
+{}
+
+/// No type can begin with the first token of an expression that begins with no typedef name.
+#[tactic(auto, using(crate::proofs::Starts::plains_start))]
+pub fn plains_start()
+    ensures start { PlainsStart }
 {}
