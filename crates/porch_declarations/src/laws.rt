@@ -32,8 +32,8 @@ pub fn declarations_pass()
     declarators_end();
 }
 
-/// Behind a base and a declarator with `{` behind them the builder comes to the head of a function, and is over
-/// behind none before.
+/// Behind a base and a declarator with `{` behind them the builder comes to the head of a function, and
+/// is over behind none before.
 pub fn heads_pass()
     ensures pass { HeadsPass }
 {

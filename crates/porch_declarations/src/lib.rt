@@ -1,9 +1,9 @@
 //! From tokens to declarations, with their initialisers, or to the head of a function.
 //!
-//! `declaration` reads the tokens of a declaration, one after another. `stage` has what stands in front of the
-//! next token, `initial` what initialisers are made of, `entry` how declarators end, and `step` what a token
-//! does. `specs/Declarations` is the same as a definition over the tokens, and `laws` says that the run over the
-//! tokens of a declaration, or of a function's head, reaches it.
+//! `declaration` reads the tokens of a declaration, one after another. `stage` has what stands in front of
+//! the next token, `initial` what initialisers are made of, `entry` how declarators end, and `step` what a
+//! token does. `specs/Declarations` is the same as a definition over the tokens, and `laws` says that the run
+//! over the tokens of a declaration, or of a function's head, reaches it.
 #![tactic(auto)]
 
 mod entry;
