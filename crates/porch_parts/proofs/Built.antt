@@ -31,7 +31,7 @@ use Rattle.porch_parts.proofs.Lists.{put, put_last, put_one, put_operands, opera
 use Rattle.porch_parts.proofs.Levels.{level, floor, top, floor_positive, ends_level, tighter_level, tighter_floor, condition_level, condition_floor, assign_level, assign_floor, cond_assign, unary_cast, operand_cast, cast_level, cast_floor, comma_floor, argument_floor, ends, stays, continues_row, begins_row, begins_sequence, infix_part, assigning_part, prefix_start, may, low_may, Stands, low_stands, operand_stands, cast_stands, row_low, awaits_on}
 use Rattle.porch_parts.proofs.KindWords.{is_const, AreKindWords, only_behind, kind_only, kind_words, word_step, first_step}
 use Rattle.porch_parts.proofs.Firsts.{IsBegun, begun, IsLed, Leads, led, IsOther, is_bracket, no_bracket_begun, IsStart, plain_starts, base_starts, params_lead}
-use Rattle.porch_parts.proofs.TypeLists.{field_list, fields_back, constant_list, constants_back, declarator_list, declarators_back, params_list, params_back, with_all, declared_whole, not_void, follows, ending, at_a_core, inside, behind_a_tag, closing, based_words, based_form, tag_is_form, tag_sign, core_at_first, core_behind_star, core_ends, ends_at_core, ends_follow, follow_tags, brackets_end, params_at_core, inner_at_core, count_begins, constant_ends}
+use Rattle.porch_parts.proofs.TypeLists.{field_list, fields_back, constant_list, constants_back, declarator_list, declarators_back, params_list, params_back, with_all, declared_whole, not_void, follows, ending, at_a_core, inside, behind_a_tag, closing, based_words, based_form, tag_is_form, tag_sign, core_at_first, core_behind_star, core_ends, ends_at_core, follow_tags, brackets_end, params_at_core, inner_at_core, count_begins, constant_ends}
 
 same_name : (t : Spelled) (n : Name) → t.at ≡ n.at → t.bytes ≡ n.bytes → n ≡ spelt_name t
 same_name t n p q =
@@ -39,16 +39,16 @@ same_name t n p q =
 
 module _ (types : List (List ℕ)) (i : Bool) (G : State → Type 0) where
   -- What is read when these states stand before these tokens.
-  abbrev From : State → List Spelled → Type 0
+  abbrev pub From : State → List Spelled → Type 0
   From s ts = G (run types s ts)
 
-  token : (s : State) (p : Piece) (ps : List Piece) (ts : List Spelled) → AreMatched ts (p ∷ ps)
+  pub token : (s : State) (p : Piece) (ps : List Piece) (ts : List Spelled) → AreMatched ts (p ∷ ps)
       → ((t : Spelled) (rest : List Spelled) → Matches t p → AreMatched rest ps → From (step_on types s p.word t) rest) → From s ts
   token s p ps [] h k = absurd h
   token s p ps (t ∷ ts) h k = subst (λ w. From (step_on types s w t) ts) (sym h.0.word) (k t ts h.0 h.1)
 
   -- behind these frames and this operand stands what an expression behind frames is
-  abbrev IsBehind : List Frame → Operand → ℕ → List Frame → Expr → Type 0
+  abbrev pub IsBehind : List Frame → Operand → ℕ → List Frame → Expr → Type 0
   IsBehind gs o l fs e = (n : ℕ) → n < l → closed n gs (value_of o) ≡ closed n fs e
 
   abbrev Goes : ℕ → List Part → List Frame → Expr → List Piece → Type 0
@@ -67,7 +67,7 @@ module _ (types : List (List ℕ)) (i : Bool) (G : State → Type 0) where
   of_exact e x qs fs d ps ts l s y h k = x qs fs d ps ts y h (λ rest r. k fs (operand e) rest (λ n z. refl) r)
 
   -- the frames and the value that a word finds
-  found : (n : ℕ) (gs : List Frame) (o : Operand) (fs : List Frame) (e : Expr) (rest : List Spelled) (b : Bool) (qs : List Part) (w : Word) (t : Spelled) (go : List Frame → Expr → building.State)
+  pub found : (n : ℕ) (gs : List Frame) (o : Operand) (fs : List Frame) (e : Expr) (rest : List Spelled) (b : Bool) (qs : List Part) (w : Word) (t : Spelled) (go : List Frame → Expr → building.State)
       → closed n gs (value_of o) ≡ record { frames = fs; value = e } → From (expr_on b qs (go fs e) w t) rest
       → From (expr_on b qs (go (closed n gs (value_of o)).frames (closed n gs (value_of o)).value) w t) rest
   found n gs o fs e rest b qs w t go h k = subst (λ c. From (expr_on b qs (go c.frames c.value) w t) rest) (sym h) k
@@ -161,11 +161,11 @@ module _ (types : List (List ℕ)) (i : Bool) (G : State → Type 0) where
   T fs qs x = in_type fs (place qs x)
 
   -- what a part comes to with the next token
-  abbrev After : List Frame → (Sign → Place) → List Spelled → Type 0
+  abbrev pub After : List Frame → (Sign → Place) → List Spelled → Type 0
   After fs z [] = ⊥
   After fs z (t ∷ ts) = From (placed_on (begins types t.word t) fs (z (sign_of t.word)) t.word t) ts
 
-  after_token : (fs : List Frame) (z : Sign → Place) (p : Piece) (ps : List Piece) (ts : List Spelled) → AreMatched ts (p ∷ ps)
+  pub after_token : (fs : List Frame) (z : Sign → Place) (p : Piece) (ps : List Piece) (ts : List Spelled) → AreMatched ts (p ∷ ps)
       → ((t : Spelled) (rest : List Spelled) → Matches t p → AreMatched rest ps → From (placed_on (begins types p.word t) fs (z (sign_of p.word)) p.word t) rest) → After fs z ts
   after_token fs z p ps [] h k = absurd h
   after_token fs z p ps (t ∷ ts) h k = subst (λ w. From (placed_on (begins types w t) fs (z (sign_of w)) w t) ts) (sym h.0.word) (k t ts h.0 h.1)
@@ -337,15 +337,11 @@ module _ (types : List (List ℕ)) (i : Bool) (G : State → Type 0) where
       token (T fs qs (behind_star at acc n)) _ _ rest r (λ t rest m r.
       stars_run js j (acc ++ n ∷ []) fs qs at d ps rest r (λ ss l e rest r. c ss l (e ∙ append_one acc n (j ∷ js)) rest r)))
 
-  leads_follow : (ps : List Piece) → Leads ending ps → Leads follows ps
-  leads_follow [] l = absurd l
-  leads_follow (p ∷ ps) l = ends_follow (sign_of p.word) l
-
-  declarator_leads : (x : Declarator) (d : ℕ) (ps : List Piece) → Leads ending ps → Leads follows (declarator_pieces i x d ps)
+  pub declarator_leads : (x : Declarator) (d : ℕ) (ps : List Piece) → Leads follows ps → Leads follows (declarator_pieces i x d ps)
   declarator_leads (declarator at (n ∷ ns) core bs) d ps l = refl
   declarator_leads (declarator at [] (named_core n) bs) d ps l = refl
   declarator_leads (declarator at [] (inner k x) bs) d ps l = refl
-  declarator_leads (declarator at [] lacking no_brackets) d ps l = leads_follow ps l
+  declarator_leads (declarator at [] lacking no_brackets) d ps l = l
   declarator_leads (declarator at [] lacking (with_bracket (count e) bs)) d ps l = refl
   declarator_leads (declarator at [] lacking (with_bracket empty_list bs)) d ps l = refl
   declarator_leads (declarator at [] lacking (with_bracket void_list bs)) d ps l = refl
@@ -365,9 +361,17 @@ module _ (types : List (List ℕ)) (i : Bool) (G : State → Type 0) where
   members_end no_declarators d ps = refl
   members_end (with_declarator x xs) d ps = refl
 
+  members_follow : (xs : Declarators) (d : ℕ) (ps : List Piece) → Leads follows (more_declarators_pieces i xs d (mark_piece i mark.Semicolon d ∷ ps))
+  members_follow no_declarators d ps = refl
+  members_follow (with_declarator x xs) d ps = refl
+
   params_end : (xs : Params) (d : ℕ) (ps : List Piece) → Leads ending (more_params_pieces i xs d (mark_piece i mark.CloseParenthesis d ∷ ps))
   params_end nothing_declared d ps = refl
   params_end (with_param x xs) d ps = refl
+
+  params_follow : (xs : Params) (d : ℕ) (ps : List Piece) → Leads follows (more_params_pieces i xs d (mark_piece i mark.CloseParenthesis d ∷ ps))
+  params_follow nothing_declared d ps = refl
+  params_follow (with_param x xs) d ps = refl
 
   constants_end : (cs : Constants) (d : ℕ) (ps : List Piece) → Leads closing (more_constants_pieces i cs d (mark_piece i mark.CloseBrace d ∷ ps))
   constants_end no_constants d ps = refl
@@ -439,7 +443,7 @@ module _ (types : List (List ℕ)) (i : Bool) (G : State → Type 0) where
     exact (assign a x e) g w = absurd g
     exact (sequence e es) g w = absurd g
 
-    reads : (e : Expr) → IsExpr e → Reads e
+    pub reads : (e : Expr) → IsExpr e → Reads e
     reads (name n) w qs fs d ps ts l s y h k = of_exact (name n) (name_exact n) qs fs d ps ts l s y h k
     reads (whole n) w qs fs d ps ts l s y h k = of_exact (whole n) (whole_exact n) qs fs d ps ts l s y h k
     reads (character n) w qs fs d ps ts l s y h k = of_exact (character n) (character_exact n) qs fs d ps ts l s y h k
@@ -459,13 +463,13 @@ module _ (types : List (List ℕ)) (i : Bool) (G : State → Type 0) where
         token (in_expr qs (awaits fs)) _ _ ts h (λ t rest m r.
         token (in_expr qs (awaits (behind_prefix t.at prefix_variant.Sizeof ∷ fs))) _ _ rest r (λ u rest v r.
         type_inside qs (behind_prefix t.at prefix_variant.Sizeof ∷ fs) u.at rest (Some t.at) refl (type_starts x w y (suc d) _ rest r)
-        (reads_type_name x w y (in_size t.at ∷ fs) qs (suc d) (suc d) ps rest r (λ rest r.
+        (reads_type_name x w y (in_size t.at) fs qs (suc d) (suc d) ps rest r (λ rest r.
         subst (λ a. From (in_expr qs (behind fs (operand (size_of a x)))) rest) (sym m.place) (k fs (operand (size_of at x)) rest (λ n z. refl) r)))))
     reads (cast at x e) w qs fs d ps ts l s y h k =
         token (in_expr qs (awaits fs)) _ _ ts h (λ t rest m r.
         subst (λ (b : Bool). From (expr_on false qs (if b then opened fs t.at else awaits (in_parentheses t.at ∷ fs)) (word.Mark mark.OpenParenthesis) t) rest) (sym s.0)
         (type_inside qs fs t.at rest None s.1 (type_starts x w.0 y.0 (suc d) _ rest r)
-        (reads_type_name x w.0 y.0 (in_cast t.at ∷ fs) qs (suc d) (suc d) _ rest r (λ rest r.
+        (reads_type_name x w.0 y.0 (in_cast t.at) fs qs (suc d) (suc d) _ rest r (λ rest r.
         reads e w.2 qs (behind_cast t.at x ∷ fs) (suc d) ps rest (cast_floor e w.1) (cast_stands t.at x fs e) y.1 r (λ gs o rest same r.
         k gs o rest (λ n z. let deep = cast_level e w.1 in same n (omega (arith, z, deep))
         ∙ ends n (behind_cast t.at x) fs e z ∙ ap (λ a. closed n fs (cast a x e)) m.place) r)))))
@@ -580,15 +584,15 @@ module _ (types : List (List ℕ)) (i : Bool) (G : State → Type 0) where
         more_arguments es w.2 y.1 qs fs o (xs ++ e ∷ []) x d ps rest (assign_level x w.0) gs v same r (λ rest r.
         subst (λ z. From (in_expr qs (behind fs (suffixed_by o (call z)))) rest) (sym (put_one xs e (with_expr x es))) (k rest r)))))
 
-    reads_type_name : (x : TypeName) → IsTypeName x → ReadsTypeName types x → (fs : List Frame) (qs : List Part) (d c : ℕ) (ps : List Piece) (ts : List Spelled)
+    reads_type_name : (x : TypeName) → IsTypeName x → ReadsTypeName types x → (f : Frame) (fs : List Frame) (qs : List Part) (d c : ℕ) (ps : List Piece) (ts : List Spelled)
         → AreMatched ts (type_name_pieces i x d (mark_piece i mark.CloseParenthesis c ∷ ps))
-        → ((rest : List Spelled) → AreMatched rest ps → From (in_expr qs (type_closed fs x)) rest) → From (T fs (alone ∷ qs) at_base) ts
-    reads_type_name (type_name b x) w y fs qs d c ps ts h k =
-        reads_base b w.0 y.0 fs alone qs d _ ts (declarator_leads x d _ refl) h (λ rest r.
-        reads_declarator false x w.2 y.1 fs (typed b [] ∷ alone ∷ qs) d _ rest refl r (λ rest r.
-        after_token fs (declared (typed b [] ∷ alone ∷ qs) x) _ ps rest r (λ t rest m r. k rest r)))
+        → ((rest : List Spelled) → AreMatched rest ps → From (in_expr qs (type_closed (f ∷ fs) x)) rest) → From (T (f ∷ fs) (alone ∷ qs) at_base) ts
+    reads_type_name (type_name b x) w y f fs qs d c ps ts h k =
+        reads_base b w.0 y.0 (f ∷ fs) alone qs d _ ts (declarator_leads x d _ refl) h (λ rest r.
+        reads_declarator false x w.2 y.1 (f ∷ fs) (typed b [] ∷ alone ∷ qs) d _ rest refl r (λ rest r.
+        after_token (f ∷ fs) (declared (typed b [] ∷ alone ∷ qs) x) _ ps rest r (λ t rest m r. k rest r)))
 
-    reads_base : (b : Base) → IsBase b → ReadsBase types b → BaseGoes b
+    pub reads_base : (b : Base) → IsBase b → ReadsBase types b → BaseGoes b
     reads_base (kind at ks) w y fs p qs d ps ts l h k = kind_base at ks w (kind_words ks w) fs p qs d ps ts l h k
     reads_base (void at c) w y fs p qs d ps ts l h k = void_base at c fs p qs d ps ts l h k
     reads_base (typedef_name at n c) w y fs p qs d ps ts l h k = typedef_base at n c w fs p qs d ps ts l h k
@@ -616,7 +620,7 @@ module _ (types : List (List ℕ)) (i : Bool) (G : State → Type 0) where
         subst (λ z. From (T fs (p ∷ qs) (behind_form f (fields_form n z) 0)) rest) (sym (append_nothing acc)) (k rest r))
     fields_run (with_field (field b no_declarators) xs) w y fs f n acc p qs d c ps ts h k = absurd (w.0.1 refl)
     fields_run (with_field (field b (with_declarator x ds)) xs) w y fs f n acc p qs d c ps ts h k =
-        reads_base b w.0.0 y.0.0 fs (in_fields f n acc) (p ∷ qs) d _ ts (declarator_leads x (suc d) _ (members_end ds d _)) h (λ rest r.
+        reads_base b w.0.0 y.0.0 fs (in_fields f n acc) (p ∷ qs) d _ ts (declarator_leads x (suc d) _ (members_follow ds d _)) h (λ rest r.
         reads_declarator true x w.0.2.0 y.0.1.0 fs (typed b [] ∷ in_fields f n acc ∷ p ∷ qs) (suc d) _ rest (members_end ds d _) r (λ rest r.
         members_after ds w.0.2.1 y.0.1.1 fs b [] x f n acc (p ∷ qs) d _ rest r (λ rest r.
         subst (λ z. From (T fs (in_fields f n (acc ++ field b (with_declarator x z) ∷ []) ∷ p ∷ qs) at_base) rest) (sym (declarators_back ds))
@@ -665,7 +669,7 @@ module _ (types : List (List ℕ)) (i : Bool) (G : State → Type 0) where
         constants_after cs w.1 y.1 fs f n (acc ++ c ∷ []) x p qs d ps rest r (λ rest r.
         subst (λ l. From (T fs (p ∷ qs) (behind_form f (constants_form n l) 0)) rest) (sym (append_one acc c (x ∷ constant_list cs))) (k rest r))))
 
-    reads_declarator : (must : Bool) (x : Declarator) → IsDeclarator must x → ReadsDeclarator types x → (fs : List Frame) (qs : List Part) (d : ℕ) (ps : List Piece) (ts : List Spelled) → Leads ending ps
+    pub reads_declarator : (must : Bool) (x : Declarator) → IsDeclarator must x → ReadsDeclarator types x → (fs : List Frame) (qs : List Part) (d : ℕ) (ps : List Piece) (ts : List Spelled) → Leads ending ps
         → AreMatched ts (declarator_pieces i x d ps) → ((rest : List Spelled) → AreMatched rest ps → After fs (declared qs x) rest) → From (T fs qs at_declarator) ts
     reads_declarator must (declarator a [] core bs) w y fs qs d ps ts l h k =
         core_run must core bs w.2 y.0 (brackets_run bs w.3 y.1) (lacking_run bs w.3 y.1) w.1 fs qs at_declarator (λ t. t.at) a (first_bracket a [] core) [] (declarator 0 [] lacking no_brackets) d ps ts
@@ -775,7 +779,7 @@ module _ (types : List (List ℕ)) (i : Bool) (G : State → Type 0) where
         → ((rest : List Spelled) → AreMatched rest ps → From (T fs qs (behind_core (bracketed x (param_list xs)))) rest) → From (T fs (in_params x [] ∷ qs) at_base) ts
     params_run nothing_declared some n w y fs qs x d ps ts h k = absurd (some refl)
     params_run (with_param (param b u) xs) some n w y fs qs x d ps ts h k =
-        reads_base b w.0.0 y.0.0 fs (in_params x []) qs d _ ts (declarator_leads u (suc d) _ (params_end xs d ps)) h (λ rest r.
+        reads_base b w.0.0 y.0.0 fs (in_params x []) qs d _ ts (declarator_leads u (suc d) _ (params_follow xs d ps)) h (λ rest r.
         reads_declarator false u w.0.1 y.0.1 fs (typed b [] ∷ in_params x [] ∷ qs) (suc d) _ rest (params_end xs d ps) r (λ rest r.
         params_after xs w.1 y.1 fs b u [] x qs d ps rest r (λ rest r.
         subst (λ c. From (T fs qs (behind_core (bracketed x c))) rest) (sym (parameters_are (with_param (param b u) xs) n)) (k rest r))))
@@ -788,7 +792,7 @@ module _ (types : List (List ℕ)) (i : Bool) (G : State → Type 0) where
         after_token fs (declared (typed b [] ∷ in_params x acc ∷ qs) u) _ ps ts h (λ t rest m r. k rest r)
     params_after (with_param (param c v) xs) w y fs b u acc x qs d ps ts h k =
         after_token fs (declared (typed b [] ∷ in_params x acc ∷ qs) u) _ _ ts h (λ t rest m r.
-        reads_base c w.0.0 y.0.0 fs (in_params x (acc ++ param b u ∷ [])) qs d _ rest (declarator_leads v (suc d) _ (params_end xs d ps)) r (λ rest r.
+        reads_base c w.0.0 y.0.0 fs (in_params x (acc ++ param b u ∷ [])) qs d _ rest (declarator_leads v (suc d) _ (params_follow xs d ps)) r (λ rest r.
         reads_declarator false v w.0.1 y.0.1 fs (typed c [] ∷ in_params x (acc ++ param b u ∷ []) ∷ qs) (suc d) _ rest (params_end xs d ps) r (λ rest r.
         params_after xs w.1 y.1 fs c v (acc ++ param b u ∷ []) x qs d ps rest r (λ rest r.
         subst (λ l. From (T fs qs (behind_core (bracketed x (parameters l)))) rest) (sym (append_one acc (param b u) (param c v ∷ params_list xs))) (k rest r)))))

@@ -7,3 +7,6 @@ mod Built
 mod Outermost
 mod Keys
 mod Voids
+mod Fronts
+mod Ends
+mod Starts

@@ -113,6 +113,7 @@ ending sign.Close = true
 ending sign.Comma = true
 ending sign.Semicolon = true
 ending sign.Equal = true
+ending sign.OpenBrace = true
 ending s = false
 
 abbrev pub at_a_core : Sign → Bool
@@ -123,6 +124,7 @@ at_a_core sign.Close = true
 at_a_core sign.Comma = true
 at_a_core sign.Semicolon = true
 at_a_core sign.Equal = true
+at_a_core sign.OpenBrace = true
 at_a_core s = false
 
 -- what a declarator in parentheses begins with
@@ -200,14 +202,8 @@ ends_at_core sign.Close h = refl
 ends_at_core sign.Comma h = refl
 ends_at_core sign.Semicolon h = refl
 ends_at_core sign.Equal h = refl
+ends_at_core sign.OpenBrace h = refl
 ends_at_core s h = cc
-
-pub ends_follow : (s : Sign) → ending s ≡ true → follows s ≡ true
-ends_follow sign.Close h = refl
-ends_follow sign.Comma h = refl
-ends_follow sign.Semicolon h = refl
-ends_follow sign.Equal h = refl
-ends_follow s h = cc
 
 pub follow_tags : (s : Sign) → follows s ≡ true → behind_a_tag s ≡ true
 follow_tags sign.Const h = refl

@@ -3,7 +3,7 @@ use Rattle.std.specs.Prelude.{ℕ, Bool, true, false, ◌&&◌, ◌||◌, if◌t
 use Rattle.std.specs.Str.{bytes_eq}
 use Rattle.std.specs.List.{list_any}
 use Rattle.porch_tree.specs.declared.word.Word.{Word}
-use Rattle.porch_tree.specs.Mirror.{Expr}
+use Rattle.porch_tree.specs.Mirror.{Expr, TypeName}
 use Rattle.porch_tree.specs.Pieces.{Spelled}
 use Rattle.porch_tree.specs.Grammar.{is_name}
 use Rattle.porch_parse.specs.Building.{Frame, awaits, at_type, over, alone as alone_frame, named, expression_in}
@@ -35,10 +35,18 @@ can_begin types w bytes = begins_base (sign_of w) || (is_name w && names_type ty
 abbrev pub begins : List (List ℕ) → Word → Spelled → Bool
 begins types w t = can_begin types w t.bytes
 
+abbrev pub is_bare : List Frame → Bool
+is_bare [] = true
+is_bare (f ∷ fs) = false
+
+-- A type ended in front of this word: it goes back to the expression that it lies in, if it lies in one.
+abbrev pub type_over : List Frame → List Part → TypeName → Word → State
+type_over fs ps x w = if is_bare fs then in_type fs (place ps (over_type x)) else in_expr ps (named fs x w)
+
 -- What a type comes to with this token. `b` says whether a type can begin with it.
 abbrev pub type_on : Bool → List Frame → List Part → Point → Word → Spelled → State
 type_on b fs ps at_expr w t = in_expr ps (building.step b (awaits (alone_frame ∷ fs)) w t)
-type_on b fs ps (over_type x) w t = in_expr ps (named fs x w)
+type_on b fs ps (over_type x) w t = type_over fs ps x w
 type_on b fs ps x w t = in_type fs (place ps x)
 
 abbrev pub placed_on : Bool → List Frame → Place → Word → Spelled → State

@@ -1,7 +1,7 @@
 -- What the code's parts are as plain data.
 use Rattle.std.specs.Prelude.{ℕ, List, [], ◌∷◌, map, fold}
 use Rattle.std.specs.Option.{option_map}
-use Rattle.porch_tree.specs.Views.{name_of, base_of, field_of, constant_of, declarator_of, core_of, bracket_of, param_of, type_name_of}
+use Rattle.porch_tree.specs.Views.{name_of, expr_of, base_of, field_of, constant_of, declarator_of, core_of, bracket_of, param_of, type_name_of}
 use Rattle.porch_parse.specs.declared.frame.Frame as code_frame
 use Rattle.porch_parse.specs.Shown.{frames_of, state_of as expr_state_of}
 use Rattle.porch_parts.specs.declared.part.Form as code_form
@@ -11,10 +11,13 @@ use Rattle.porch_parts.specs.declared.part.Part as code_part
 use Rattle.porch_parts.specs.declared.part.Part.TheVariants as part
 use Rattle.porch_parts.specs.declared.part.Point as code_point
 use Rattle.porch_parts.specs.declared.part.Point.TheVariants as point
+use Rattle.porch_parts.specs.declared.found.Found as code_found
+use Rattle.porch_parts.specs.declared.found.Found.TheVariants as found
 use Rattle.porch_parts.specs.declared.reader.Turn as code_turn
 use Rattle.porch_parts.specs.declared.reader.Turn.TheVariants as turn
 use Rattle.porch_parts.specs.Types.{Form, void_form, typedef_form, tag_form, fields_form, constants_form, Declaring, declared_by, Part, typed, in_fields, in_constants, in_constant, in_params, in_count, in_inner, alone, Point, at_base, behind_words, at_tag, behind_tag, behind_form, at_constant, behind_constant, at_value, at_declarator, behind_star, at_core, behind_core, at_count, at_expr, over_base, over_declarator, over_type, broken, Place, place, lost}
 use Rattle.porch_parts.specs.Parts.{State, in_expr, in_type}
+use Rattle.porch_parts.specs.Ends.{Found, going, found_expr, found_typed, found_declared}
 
 module _ (text : List ℕ) where
   abbrev pub form_of : code_form.Form → Form
@@ -70,3 +73,9 @@ module _ (text : List ℕ) where
   abbrev pub state_of : List code_frame.Frame → List code_part.Part → code_turn.Turn → State
   state_of fs ps (turn.Expr p) = in_expr (parts_of ps) (expr_state_of text fs p)
   state_of fs ps (turn.Type x) = in_type (frames_of text fs) (place_of ps x)
+
+  abbrev pub found_of : List code_frame.Frame → List code_part.Part → code_found.Found → Found
+  found_of fs ps (found.Going t) = going (state_of fs ps t)
+  found_of fs ps (found.Expr e) = found_expr (expr_of text e)
+  found_of fs ps (found.Type x) = found_typed (type_name_of text x)
+  found_of fs ps (found.Declarator d) = found_declared (declarator_of text d)

@@ -119,7 +119,8 @@ pub(crate) fn begin_named(
     )
 }
 
-fn declarator_from(declaring: Boxed<Declaring>) -> Declarator
+/// The declarator that has been read.
+pub(crate) fn declarator_from(declaring: Boxed<Declaring>) -> Declarator
     ensures { (text : List ℕ) →
         declarator_of text result ≡ declared_by (declaring_of text declaring) }
 {

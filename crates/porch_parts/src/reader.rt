@@ -3,11 +3,10 @@
 ghost use Rattle.std.specs.Prelude.{ℕ, ◌≡◌, List, [], ◌∷◌, IfOk};
 ghost use Rattle.porch_tree.specs.Views.{expr_of, type_name_of};
 ghost use Rattle.porch_lex.specs.Words.{kind_word, spelled_token};
-ghost use Rattle.porch_parse.specs.Building.{named};
 ghost use Rattle.porch_parse.specs.Shown as expr_shown;
 ghost use Rattle.porch_parse.specs.Shown.{frames_of};
 ghost use Rattle.porch_parts.specs.Types as types;
-ghost use Rattle.porch_parts.specs.Parts.{in_expr, in_type, step_at, expr_on, placed_on, leave};
+ghost use Rattle.porch_parts.specs.Parts.{in_expr, in_type, step_at, expr_on, placed_on, leave, is_bare, type_over};
 ghost use Rattle.porch_parts.specs.Signs.{sign_of};
 ghost use Rattle.porch_parts.specs.Types.{type_step, at_base, given};
 ghost use Rattle.porch_parts.specs.Shown.{parts_of, place_of, state_of};
@@ -37,7 +36,7 @@ pub enum Turn {
 }
 
 /// What stands behind one more token. `begins` says whether a type can begin with it.
-pub(crate) fn read_token(
+pub fn read_token(
     alloc: Global,
     reader: &mut Reader,
     turn: Turn,
@@ -242,10 +241,23 @@ fn end_type(
 ) -> Result<Turn, AllocError>
     ensures { IfOk result (λ t. (text : List ℕ) →
         state_of text reader.new.frames reader.new.parts t
-        ≡ in_expr (parts_of text reader.old.parts)
-        (named (frames_of text reader.old.frames) (type_name_of text name)
-        (kind_word token.kind))) }
+        ≡ type_over (frames_of text reader.old.frames) (parts_of text reader.old.parts)
+        (type_name_of text name) (kind_word token.kind)) }
 {
+    if bare(&reader.frames) {
+        return Ok(Turn::Type(Point::OverType(name)));
+    }
     let phase = name_type(alloc, &mut reader.frames, name, word_at(token))?;
     Ok(Turn::Expr(phase))
+}
+
+// whether no expression is being read
+#[tactic(auto, using(crate::proofs::Outermost::inner_frames))]
+fn bare(frames: &Items<Frame>) -> bool
+    ensures { (text : List ℕ) → result ≡ is_bare (frames_of text frames.now) }
+{
+    match frames.as_slice() {
+        [] => true,
+        [.., _] => false,
+    }
 }

@@ -119,7 +119,7 @@ fn mark_sign(mark: Mark) -> Sign
 }
 
 /// What the word is in a type.
-pub(crate) fn sign_at(word: Word) -> Sign
+pub fn sign_at(word: Word) -> Sign
     ensures { result ≡ sign_of word }
 {
     match word {

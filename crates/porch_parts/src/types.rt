@@ -49,7 +49,7 @@ fn can_begin(types: &IndexSet<&[u8]>, word: Word, bytes: &[u8]) -> bool
 }
 
 /// Whether a type can begin with a token, these names being typedef names.
-pub(crate) fn begins(types: &IndexSet<&[u8]>, text: &[u8], token: Token) -> bool
+pub fn begins(types: &IndexSet<&[u8]>, text: &[u8], token: Token) -> bool
     ensures { result ≡ begins (map (λ k. k.now) types.now.keys) (kind_word token.kind)
         (spelled_token text.now token) }
 {

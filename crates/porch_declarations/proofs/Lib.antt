@@ -1,0 +1,5 @@
+mod Results
+mod Lists
+mod Firsts
+mod Through
+mod Built

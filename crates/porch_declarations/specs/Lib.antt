@@ -1,0 +1,4 @@
+-- the builder of declarations
+pub mod Declarations
+-- what the code's stages are as plain data
+pub mod Shown

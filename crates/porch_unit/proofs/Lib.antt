@@ -1,0 +1,6 @@
+mod Lists
+mod Firsts
+mod Statements
+mod Blocks
+mod Runs
+mod Items

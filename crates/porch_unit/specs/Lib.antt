@@ -1,0 +1,2 @@
+-- the builder of statements and items
+pub mod Units
