@@ -7,9 +7,10 @@ use Rattle.porch_walk.specs.Walk.{Stage, step, start, Wrong}
 use Rattle.porch_walk.specs.Walk as walk
 use Rattle.porch_walk.specs.Walks.{knows}
 use Rattle.porch_walk.specs.Reach.{IsReachOf}
-use Rattle.porch_depth.specs.declared.level.Level.{Level}
-use Rattle.porch_depth.specs.declared.level.Reading.{Reading}
-use Rattle.porch_depth.specs.Levels.{read, readings, readings_from, shown, uses_shown, deep_from, first_deep, reach_of, nesting_or, first_fault}
+use Rattle.porch_walk.specs.declared.level.Level.{Level}
+use Rattle.porch_walk.specs.declared.level.Reading.{Reading}
+use Rattle.porch_walk.specs.Levels.{read, readings, readings_from, shown, uses_shown}
+use Rattle.porch_depth.specs.Levels.{deep_from, first_deep, reach_of, nesting_or, first_fault}
 use Rattle.porch_depth.specs.Told.{IsShownTooDeep, IsShownFault, too_deep, wrong, IsFound}
 
 some_same : (i j : ℕ) → Some i ≡ Some j → i ≡ j

@@ -4,7 +4,7 @@ use Rattle.std.specs.Prelude.{ℕ, ◌<◌, List, length, take, get_or, Option, 
 use Rattle.porch_tree.specs.Pieces.{Spelled}
 use Rattle.porch_tree.specs.Grammar.{MOST_USES, Fault, nesting, IsReach}
 use Rattle.porch_walk.specs.Walk.{Wrong}
-use Rattle.porch_depth.specs.Levels.{uses_shown}
+use Rattle.porch_walk.specs.Levels.{uses_shown}
 
 -- The tokens before a place show that the token lies in too many uses.
 pub record IsShownTooDeep (ts : List Spelled) (place i : ℕ) : Type 0 where

@@ -9,10 +9,15 @@ pub mod Fronts
 pub mod Joined
 pub mod Judging
 pub mod Kept
+pub mod LeftOut
 pub mod KindWords
 pub mod Meaning
+pub mod Openings
+pub mod Owing
 pub mod Passes
 pub mod Reach
+pub mod ShownParts
+pub mod ShownUnits
 pub mod Sound
 pub mod Stages
 pub mod Tokens
