@@ -35,7 +35,7 @@ no_stage s h = cc
 pub same_stage : (s n : Stage) → Some s ≡ Some n → s ≡ n
 same_stage s n h = cc
 
-heard_same : (w : Word) (a b : List ℕ) → HasBytes w a b → name_bytes w a ≡ name_bytes w b
+pub heard_same : (w : Word) (a b : List ℕ) → HasBytes w a b → name_bytes w a ≡ name_bytes w b
 heard_same word.Name a b h = h
 heard_same w a b h = refl
 

@@ -18,6 +18,7 @@ pub mod Passes
 pub mod Reach
 pub mod ShownParts
 pub mod ShownUnits
+pub mod ShownUses
 pub mod Sound
 pub mod Stages
 pub mod Tokens

@@ -41,6 +41,9 @@ both g (owing e h) = owing e (both g h)
 pub one : {k a b : ℕ} {os : List Seen} → Short k a b → Owes k os (seen a b ∷ os)
 one e = owing e nothing
 
+pub even : {a : ℕ} → Short 0 a a
+even = record { sum = omega arith }
+
 -- so many uses deeper
 pub by0 : {k a d : ℕ} → Short k a d → Short k (a + 0) d
 by0 e = record { sum = omega (arith, e.sum) }
