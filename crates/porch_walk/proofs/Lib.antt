@@ -16,6 +16,7 @@ pub mod Openings
 pub mod Owing
 pub mod Passes
 pub mod Reach
+pub mod ShownEnds
 pub mod ShownParts
 pub mod ShownUnits
 pub mod ShownUses
