@@ -17,6 +17,7 @@ pub mod Owing
 pub mod Passes
 pub mod Reach
 pub mod ShownEnds
+pub mod ShownHad
 pub mod ShownParts
 pub mod ShownUnits
 pub mod ShownUses

@@ -5,7 +5,6 @@ use Rattle.porch_tree.specs.declared.word.Keyword.TheVariants as key
 use Rattle.porch_tree.specs.declared.word.Word.{Word}
 use Rattle.porch_tree.specs.declared.word.Word.TheVariants as word
 use Rattle.porch_tree.specs.Pieces.{Spelled, Piece}
-use Rattle.porch_tree.specs.Grammar.{AreMatched}
 use Rattle.porch_walk.specs.declared.symbol.Mode.TheVariants as mode
 use Rattle.porch_walk.specs.declared.symbol.Naming.TheVariants as naming
 use Rattle.porch_walk.specs.declared.symbol.Symbol.{Symbol}
@@ -19,6 +18,7 @@ use Rattle.porch_walk.proofs.Words.{itself}
 use Rattle.porch_walk.proofs.Accepts.{leaves_no_const}
 use Rattle.porch_walk.proofs.Completes.{by, completion, Good, brace, brace_is, no_else, flipped, not_name_closes, last_good}
 use Rattle.porch_walk.proofs.Owing.{Seen, seen, Owes, nothing, owing, even, right_from, IsRight, Rt, knows_piece, left_out}
+use Rattle.porch_walk.proofs.ShownUses.{AreAlike}
 use Rattle.porch_walk.proofs.LeftOut.{off}
 use Rattle.porch_walk.proofs.LeftOut as out
 
@@ -28,12 +28,12 @@ with_uses us [] = []
 with_uses [] (p ∷ ps) = p ∷ with_uses [] ps
 with_uses (u ∷ us) (p ∷ ps) = record p { uses = u } ∷ with_uses us ps
 
-pub matched_uses : (us : List ℕ) (ts : List Spelled) (ps : List Piece) → AreMatched ts ps → AreMatched ts (with_uses us ps)
-matched_uses us [] [] h = h
-matched_uses us [] (p ∷ ps) h = absurd h
-matched_uses us (t ∷ ts) [] h = absurd h
-matched_uses [] (t ∷ ts) (p ∷ ps) h = (h.0, matched_uses [] ts ps h.1)
-matched_uses (u ∷ us) (t ∷ ts) (p ∷ ps) h = (record { word = h.0.word; place = h.0.place; bytes = h.0.bytes }, matched_uses us ts ps h.1)
+pub alike_uses : (us : List ℕ) (ts : List Spelled) (ps : List Piece) → AreAlike ts ps → AreAlike ts (with_uses us ps)
+alike_uses us [] [] h = h
+alike_uses us [] (p ∷ ps) h = absurd h
+alike_uses us (t ∷ ts) [] h = absurd h
+alike_uses [] (t ∷ ts) (p ∷ ps) h = (h.0, alike_uses [] ts ps h.1)
+alike_uses (u ∷ us) (t ∷ ts) (p ∷ ps) h = (record { word = h.0.word; bytes = h.0.bytes }, alike_uses us ts ps h.1)
 
 heads_with : (class : Word → Bool) (us : List ℕ) (ps : List Piece) → Heads class ps → Heads class (with_uses us ps)
 heads_with class us [] h = h

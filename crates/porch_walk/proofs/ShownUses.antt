@@ -3,7 +3,7 @@ use Rattle.std.proofs.Common.{◌≡◌, ◌≤◌, ℕ, zero, suc, ◌+◌, Boo
 use Rattle.porch_tree.specs.declared.word.Word.{Word}
 use Rattle.porch_tree.specs.Mirror.{TranslationUnit}
 use Rattle.porch_tree.specs.Pieces.{Spelled, Piece, unit_pieces}
-use Rattle.porch_tree.specs.Grammar.{Matches, AreMatched, IsDeepUnit}
+use Rattle.porch_tree.specs.Grammar.{HasBytes, AreMatched, IsDeepUnit}
 use Rattle.porch_walk.specs.declared.level.Level.{Level}
 use Rattle.porch_walk.specs.declared.level.Reading.{Reading}
 use Rattle.porch_walk.specs.Walk.{Stage, step, start, name_bytes, names_type}
@@ -13,8 +13,24 @@ use Rattle.porch_walk.proofs.First.{step_same, heard_same}
 use Rattle.porch_walk.proofs.Owing.{Seen, seen, deepen, Short, Owes, nothing, owing, reading_at, seen_by, right_from, IsRight}
 use Rattle.porch_walk.proofs.ShownUnits.{unit_shows}
 
+-- Tokens and pieces of the same words and bytes, wherever these stand.
+pub record IsAlike (t : Spelled) (p : Piece) : Type 0 where
+  pub word : t.word ≡ p.word
+  pub bytes : HasBytes p.word t.bytes p.bytes
+
+abbrev pub AreAlike : List Spelled → List Piece → Type 0
+AreAlike [] [] = Unit {0}
+AreAlike (t ∷ ts) (p ∷ ps) = IsAlike t p × AreAlike ts ps
+AreAlike ts ps = ⊥
+
+matched_alike : (ts : List Spelled) (ps : List Piece) → AreMatched ts ps → AreAlike ts ps
+matched_alike [] [] h = tt
+matched_alike [] (p ∷ ps) h = absurd h
+matched_alike (t ∷ ts) [] h = absurd h
+matched_alike (t ∷ ts) (p ∷ ps) h = (record { word = h.0.word; bytes = h.0.bytes }, matched_alike ts ps h.1)
+
 -- Each of these tokens, the first of which was read so many tokens ago, is covered by what comes.
-abbrev ArePaid : ℕ → List Seen → List Reading → Type 0
+abbrev pub ArePaid : ℕ → List Seen → List Reading → Type 0
 ArePaid n [] rs = Unit {0}
 ArePaid n (o ∷ os) rs = (o.shown + covering n rs ≡ o.uses) × ArePaid (suc n) os rs
 
@@ -53,16 +69,16 @@ one_more : (n : ℕ) → n + 1 ≡ suc n
 one_more n = omega arith
 
 -- what is shown of the tokens to come, and of those that were read
-record AreShown (s : Stage) (ls : List Level) (os : List Seen) (ts : List Spelled) (ps : List Piece) : Type 0 where
-  uses : shown (readings s ls (length os) ts) ≡ map (λ (p : Piece). p.uses) ps
-  paid : ArePaid 0 os (readings s ls (length os) ts)
+pub record AreShown (s : Stage) (ls : List Level) (os : List Seen) (ts : List Spelled) (ps : List Piece) : Type 0 where
+  pub uses : shown (readings s ls (length os) ts) ≡ map (λ (p : Piece). p.uses) ps
+  pub paid : ArePaid 0 os (readings s ls (length os) ts)
 
-read_same : (s : Stage) (ls : List Level) (os : List Seen) (t : Spelled) (p : Piece) → Matches t p → read (knows s t) (length os) t.word s.pending ls ≡ reading_at s ls os p
+read_same : (s : Stage) (ls : List Level) (os : List Seen) (t : Spelled) (p : Piece) → IsAlike t p → read (knows s t) (length os) t.word s.pending ls ≡ reading_at s ls os p
 read_same s ls os t p m =
     ap (λ (w : Word). read (names_type s.types (name_bytes w t.bytes)) (length os) w s.pending ls) m.word
     ∙ ap (λ bs. read (names_type s.types bs) (length os) p.word s.pending ls) (heard_same p.word t.bytes p.bytes m.bytes)
 
-shown_next : (s next : Stage) (ls : List Level) (os : List Seen) (t : Spelled) (p : Piece) (ts : List Spelled) (ps : List Piece) → Matches t p → step s p.word p.bytes ≡ Some next
+shown_next : (s next : Stage) (ls : List Level) (os : List Seen) (t : Spelled) (p : Piece) (ts : List Spelled) (ps : List Piece) → IsAlike t p → step s p.word p.bytes ≡ Some next
     → AreShown next (reading_at s ls os p).levels (seen_by (reading_at s ls os p).reading p.uses os) ts ps → AreShown s ls os (t ∷ ts) (p ∷ ps)
 shown_next s next ls os t p ts ps m e h =
     let r = reading_at s ls os p in
@@ -77,17 +93,17 @@ shown_next s next ls os t p ts ps m e h =
       paid = subst (λ v. ArePaid 0 os v) (sym q) (reached (r.reading.back) 0 os r.reading rs (from_zero (r.reading.back)) (h.paid.1));
     }
 
-shown_from : (s : Stage) (ls : List Level) (os : List Seen) (t : Spelled) (p : Piece) (ts : List Spelled) (ps : List Piece) (o : Option Stage) → Matches t p → step s p.word p.bytes ≡ o
+shown_from : (s : Stage) (ls : List Level) (os : List Seen) (t : Spelled) (p : Piece) (ts : List Spelled) (ps : List Piece) (o : Option Stage) → IsAlike t p → step s p.word p.bytes ≡ o
     → ((next : Stage) (ms : List Level) (ns : List Seen) → IsRight next ms ns ps → AreShown next ms ns ts ps)
     → right_from o (λ next. IsRight next (reading_at s ls os p).levels (seen_by (reading_at s ls os p).reading p.uses os) ps) → AreShown s ls os (t ∷ ts) (p ∷ ps)
 shown_from s ls os t p ts ps None m e f h = absurd h
 shown_from s ls os t p ts ps (Some next) m e f h = shown_next s next ls os t p ts ps m e (f next _ _ h)
 
-are_shown : (ts : List Spelled) (ps : List Piece) (s : Stage) (ls : List Level) (os : List Seen) → AreMatched ts ps → IsRight s ls os ps → AreShown s ls os ts ps
+pub are_shown : (ts : List Spelled) (ps : List Piece) (s : Stage) (ls : List Level) (os : List Seen) → AreAlike ts ps → IsRight s ls os ps → AreShown s ls os ts ps
 are_shown [] [] s ls os m h = record { uses = refl; paid = paid_at_end 0 h }
 are_shown [] (p ∷ ps) s ls os m h = absurd m
 are_shown (t ∷ ts) [] s ls os m h = absurd m
 are_shown (t ∷ ts) (p ∷ ps) s ls os m h = shown_from s ls os t p ts ps (step s p.word p.bytes) m.0 refl (λ next ms ns. are_shown ts ps next ms ns m.1) h
 
 pub unit_uses : (ts : List Spelled) (u : TranslationUnit) → IsDeepUnit ts u → uses_shown ts ≡ map (λ (p : Piece). p.uses) (unit_pieces u)
-unit_uses ts u d = (are_shown ts (unit_pieces u) start [] [] d.spelled (unit_shows u [] [] [] d.formed d.names nothing)).uses
+unit_uses ts u d = (are_shown ts (unit_pieces u) start [] [] (matched_alike ts (unit_pieces u) d.spelled) (unit_shows u [] [] [] d.formed d.names nothing)).uses

@@ -12,5 +12,7 @@ pub mod Walks
 pub mod Plans
 -- in how many of these uses each token is shown to lie
 pub mod Levels
+-- a unit that has just what is shown
+pub mod Had
 -- what single steps of the code do
 pub mod inside
