@@ -1,8 +1,9 @@
 -- The first token that is shown to lie too deep, and the first fault of a text by that.
-use Rattle.std.specs.Prelude.{ℕ, ◌≤◌, ◌+◌, ⊤, nat_lt, if◌then◌else◌, List, [], ◌∷◌, length, take, Option, Some, None}
+use Rattle.std.specs.Prelude.{ℕ, ◌≤◌, ◌+◌, ⊤, nat_lt, if◌then◌else◌, List, [], ◌∷◌, take, Option, Some, None}
 use Rattle.porch_tree.specs.Pieces.{Spelled}
 use Rattle.porch_tree.specs.Grammar.{MOST_USES, nesting}
 use Rattle.porch_walk.specs.Walk.{start, Wrong, wrong, wrong_at}
+use Rattle.porch_walk.specs.Reach.{reach_of}
 use Rattle.porch_walk.specs.Levels.{uses_shown}
 
 -- the number of the first token that lies too deep, where the first of these is token `i`
@@ -12,11 +13,6 @@ deep_from i (n ∷ ns) = if nat_lt MOST_USES n then Some i else deep_from (i + 1
 
 abbrev pub first_deep : List Spelled → Option ℕ
 first_deep ts = deep_from 0 (uses_shown ts)
-
--- how far a text is read
-abbrev pub reach_of : List Spelled → Option Wrong → ℕ
-reach_of ts None = length ts
-reach_of ts (Some w) = w.token
 
 abbrev pub nesting_or : Option ℕ → Option Wrong → Option Wrong
 nesting_or None found = found

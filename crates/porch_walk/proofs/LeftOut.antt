@@ -98,7 +98,7 @@ either_off a b e g = ap (λ (c : Bool). c || b) e ∙ g
 module _ (types : List (List ℕ)) (i : Bool) where
   pub pass_texts : (f : List ℕ) (ss : List Symbol) (l : Level) (ls : List Level) (os : List Seen) (ps : List Piece) → Heads not_text ps → Rt types i f ss ls os ps → Rt types i f (Texts ∷ ss) (l ∷ ls) os ps
   pass_texts f ss l ls os [] h r = absurd h
-  pass_texts f ss l ls os (p ∷ ps) h r = let e = differs not_text p.word word.Text h refl in left_out types i f Texts ss l ls os p ps (off _ _ e) (off _ _ e) r
+  pass_texts f ss l ls os (p ∷ ps) h r = left_out types i f Texts ss l ls os p ps (off _ _ (differs not_text p.word word.Text h refl)) (off _ _ (differs not_text p.word word.Text h refl)) r
 
   pub pass_suffixes : (f : List ℕ) (ss : List Symbol) (l : Level) (ls : List Level) (os : List Seen) (ps : List Piece) → Heads follows ps → Rt types i f ss ls os ps → Rt types i f (Suffixes ∷ ss) (l ∷ ls) os ps
   pass_suffixes f ss l ls os [] h r = absurd h
@@ -121,7 +121,7 @@ module _ (types : List (List ℕ)) (i : Bool) where
 
   pub pass_commas : (f : List ℕ) (ss : List Symbol) (l : Level) (ls : List Level) (os : List Seen) (ps : List Piece) → Heads closes ps → Rt types i f ss ls os ps → Rt types i f (Commas ∷ ss) (l ∷ ls) os ps
   pass_commas f ss l ls os [] h r = absurd h
-  pass_commas f ss l ls os (p ∷ ps) h r = let e = differs closes p.word (word.Mark mark.Comma) h refl in left_out types i f Commas ss l ls os p ps (off _ _ e) (off _ _ e) r
+  pass_commas f ss l ls os (p ∷ ps) h r = left_out types i f Commas ss l ls os p ps (off _ _ (differs closes p.word (word.Mark mark.Comma) h refl)) (off _ _ (differs closes p.word (word.Mark mark.Comma) h refl)) r
 
   pub pass_optional : (f : List ℕ) (ss : List Symbol) (l : Level) (ls : List Level) (os : List Seen) (ps : List Piece) → Heads closes ps → Rt types i f ss ls os ps → Rt types i f (Optional ∷ ss) (l ∷ ls) os ps
   pass_optional f ss l ls os [] h r = absurd h
@@ -129,55 +129,43 @@ module _ (types : List (List ℕ)) (i : Bool) where
 
   pub pass_value : (f : List ℕ) (ss : List Symbol) (l : Level) (ls : List Level) (os : List Seen) (ps : List Piece) → Heads ends ps → Rt types i f ss ls os ps → Rt types i f (ConstantValue ∷ ss) (l ∷ ls) os ps
   pass_value f ss l ls os [] h r = absurd h
-  pass_value f ss l ls os (p ∷ ps) h r = let e = differs ends p.word (word.Mark mark.Equal) h refl in left_out types i f ConstantValue ss l ls os p ps (off _ _ e) (off _ _ e) r
+  pass_value f ss l ls os (p ∷ ps) h r = left_out types i f ConstantValue ss l ls os p ps (off _ _ (differs ends p.word (word.Mark mark.Equal) h refl)) (off _ _ (differs ends p.word (word.Mark mark.Equal) h refl)) r
 
   pub pass_consts : (f : List ℕ) (ss : List Symbol) (l : Level) (ls : List Level) (os : List Seen) (ps : List Piece) → Heads behind_base ps → Rt types i f ss ls os ps → Rt types i f (Consts ∷ ss) (l ∷ ls) os ps
   pass_consts f ss l ls os [] h r = absurd h
-  pass_consts f ss l ls os (p ∷ ps) h r = let e = differs behind_base p.word (word.Key key.Const) h refl in left_out types i f Consts ss l ls os p ps (off _ _ e) (off _ _ e) r
+  pass_consts f ss l ls os (p ∷ ps) h r = left_out types i f Consts ss l ls os p ps (off _ _ (differs behind_base p.word (word.Key key.Const) h refl)) (off _ _ (differs behind_base p.word (word.Key key.Const) h refl)) r
 
   pub pass_kind : (s : Kinds) (f : List ℕ) (ss : List Symbol) (l : Level) (ls : List Level) (os : List Seen) (ps : List Piece) → Heads behind_base ps → Rt types i f ss ls os ps → Rt types i f (Kind s ∷ ss) (l ∷ ls) os ps
   pass_kind s f ss l ls os [] h r = absurd h
   pass_kind s f ss l ls os (p ∷ ps) h r =
-      let e = no_kind_of types i s p.word h in
-      left_out types i f (Kind s) ss l ls os p ps (pass _ _ (ap (kind_stage types f i ss) e)) (ap (λ o. if is_kind o then took 0 (up 0 ∷ []) else None) e) r
+      left_out types i f (Kind s) ss l ls os p ps (pass _ _ (ap (kind_stage types f i ss) (no_kind_of types i s p.word h))) (ap (λ o. if is_kind o then took 0 (up 0 ∷ []) else None) (no_kind_of types i s p.word h)) r
 
   pub pass_tag : (s : TagSort) (f : List ℕ) (ss : List Symbol) (l : Level) (ls : List Level) (os : List Seen) (ps : List Piece) → Heads behind_base ps → Rt types i f ss ls os ps → Rt types i f (TagBody s ∷ ss) (l ∷ ls) os ps
   pass_tag s f ss l ls os [] h r = absurd h
   pass_tag s f ss l ls os (p ∷ ps) h r =
-      let e = differs behind_base p.word (word.Mark mark.OpenBrace) h refl in
-      let g = differs behind_base p.word (word.Key key.Const) h refl in
-      left_out types i f (TagBody s) ss l ls os p ps (off _ _ e ∙ off _ _ g) (off _ _ e ∙ off _ _ g) r
+      left_out types i f (TagBody s) ss l ls os p ps (off _ _ (differs behind_base p.word (word.Mark mark.OpenBrace) h refl) ∙ off _ _ (differs behind_base p.word (word.Key key.Const) h refl)) (off _ _ (differs behind_base p.word (word.Mark mark.OpenBrace) h refl) ∙ off _ _ (differs behind_base p.word (word.Key key.Const) h refl)) r
 
   pub pass_brackets : (f : List ℕ) (ss : List Symbol) (l : Level) (ls : List Level) (os : List Seen) (ps : List Piece) → Heads leaves ps → Rt types i f ss ls os ps → Rt types i f (Brackets ∷ ss) (l ∷ ls) os ps
   pass_brackets f ss l ls os [] h r = absurd h
   pass_brackets f ss l ls os (p ∷ ps) h r =
-      let e = differs leaves p.word (word.Mark mark.OpenBracket) h refl in
-      let g = differs leaves p.word (word.Mark mark.OpenParenthesis) h refl in
-      left_out types i f Brackets ss l ls os p ps (off _ _ e ∙ off _ _ g) (off _ _ (either_off _ _ e g)) r
+      left_out types i f Brackets ss l ls os p ps (off _ _ (differs leaves p.word (word.Mark mark.OpenBracket) h refl) ∙ off _ _ (differs leaves p.word (word.Mark mark.OpenParenthesis) h refl)) (off _ _ (either_off _ _ (differs leaves p.word (word.Mark mark.OpenBracket) h refl) (differs leaves p.word (word.Mark mark.OpenParenthesis) h refl))) r
 
   pub pass_counts : (f : List ℕ) (ss : List Symbol) (l : Level) (ls : List Level) (os : List Seen) (ps : List Piece) → Heads leaves ps → Rt types i f ss ls os ps → Rt types i f (Counts ∷ ss) (l ∷ ls) os ps
   pass_counts f ss l ls os [] h r = absurd h
-  pass_counts f ss l ls os (p ∷ ps) h r = let e = differs leaves p.word (word.Mark mark.OpenBracket) h refl in left_out types i f Counts ss l ls os p ps (off _ _ e) (off _ _ e) r
+  pass_counts f ss l ls os (p ∷ ps) h r = left_out types i f Counts ss l ls os p ps (off _ _ (differs leaves p.word (word.Mark mark.OpenBracket) h refl)) (off _ _ (differs leaves p.word (word.Mark mark.OpenBracket) h refl)) r
 
   pub pass_declarator : (n : Naming) (f : List ℕ) (ss : List Symbol) (l : Level) (ls : List Level) (os : List Seen) (ps : List Piece) → may_lack n ≡ true → Heads leaves ps → Rt types i f ss ls os ps → Rt types i f (Declarator n ∷ ss) (l ∷ ls) os ps
   pass_declarator n f ss l ls os [] k h r = absurd h
   pass_declarator naming.Must f ss l ls os (p ∷ ps) k h r = absurd (never (sym k))
   pass_declarator naming.Typedef f ss l ls os (p ∷ ps) k h r = absurd (never (sym k))
   pass_declarator naming.May f ss l ls os (p ∷ ps) k h r =
-      let a = differs leaves p.word (word.Mark mark.Star) h refl in
-      let b = differs leaves p.word word.Name h refl in
-      let c = differs leaves p.word (word.Mark mark.OpenParenthesis) h refl in
-      let d = differs leaves p.word (word.Mark mark.OpenBracket) h refl in
-      left_out types i f (Declarator naming.May) ss l ls os p ps (off _ _ a ∙ off _ _ b ∙ off _ _ c ∙ off _ _ d) (off _ _ a ∙ off _ _ b ∙ off _ _ c ∙ off _ _ d) r
+      left_out types i f (Declarator naming.May) ss l ls os p ps (off _ _ (differs leaves p.word (word.Mark mark.Star) h refl) ∙ off _ _ (differs leaves p.word word.Name h refl) ∙ off _ _ (differs leaves p.word (word.Mark mark.OpenParenthesis) h refl) ∙ off _ _ (differs leaves p.word (word.Mark mark.OpenBracket) h refl)) (off _ _ (differs leaves p.word (word.Mark mark.Star) h refl) ∙ off _ _ (differs leaves p.word word.Name h refl) ∙ off _ _ (differs leaves p.word (word.Mark mark.OpenParenthesis) h refl) ∙ off _ _ (differs leaves p.word (word.Mark mark.OpenBracket) h refl)) r
   pass_declarator naming.Abstract f ss l ls os (p ∷ ps) k h r =
-      let a = differs leaves p.word (word.Mark mark.Star) h refl in
-      let d = differs leaves p.word (word.Mark mark.OpenBracket) h refl in
-      left_out types i f (Declarator naming.Abstract) ss l ls os p ps (off _ _ a ∙ off _ _ d) (off _ _ a ∙ off _ _ d) r
+      left_out types i f (Declarator naming.Abstract) ss l ls os p ps (off _ _ (differs leaves p.word (word.Mark mark.Star) h refl) ∙ off _ _ (differs leaves p.word (word.Mark mark.OpenBracket) h refl)) (off _ _ (differs leaves p.word (word.Mark mark.Star) h refl) ∙ off _ _ (differs leaves p.word (word.Mark mark.OpenBracket) h refl)) r
 
   -- a piece that isn't `const` behind a star
   pub after_star : (n : Naming) (f : List ℕ) (ss : List Symbol) (l : Level) (ls : List Level) (os : List Seen) (ps : List Piece) → Heads no_const ps → Rt types i f (Declarator n ∷ ss) (l ∷ ls) os ps → Rt types i f (Pointer n ∷ ss) (l ∷ ls) os ps
   after_star n f ss l ls os [] h r = absurd h
   after_star n f ss l ls os (p ∷ ps) h r =
-      let e = differs no_const p.word (word.Key key.Const) h refl in
-      taken_as (at types i f (Pointer n ∷ ss)) (at types i f (Declarator n ∷ ss)) (l ∷ ls) (l ∷ ls) os p ps (off _ _ e)
-      (ap (λ o. read_or l (length os) o ls (read (knows_piece types i p) (length os) p.word ss ls)) (off _ _ e)) r
+      taken_as (at types i f (Pointer n ∷ ss)) (at types i f (Declarator n ∷ ss)) (l ∷ ls) (l ∷ ls) os p ps (off _ _ (differs no_const p.word (word.Key key.Const) h refl))
+      (ap (λ o. read_or l (length os) o ls (read (knows_piece types i p) (length os) p.word ss ls)) (off _ _ (differs no_const p.word (word.Key key.Const) h refl))) r
