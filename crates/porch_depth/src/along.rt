@@ -7,10 +7,9 @@ ghost use Rattle.porch_walk.specs.Walks.{IsAt};
 ghost use Rattle.porch_walk.specs.Levels.{readings};
 ghost use Rattle.porch_depth.specs.inside.Reads.{ReadOn, HasRead};
 
-use porch_walk::{Level, Reading};
 use crate::read::read;
 use porch_lex::{Token, word_at};
-use porch_walk::TokenWalk;
+use porch_walk::{Level, Reading, TokenWalk};
 use std::alloc::{AllocError, Global};
 
 /// What was read of a text.

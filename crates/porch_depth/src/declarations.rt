@@ -7,10 +7,9 @@ ghost use Rattle.porch_walk.specs.Plans.{ahead, contents, core_opened, declarato
 ghost use Rattle.porch_depth.specs.inside.Takes.{with_steps, outcome, TookBy};
 
 use crate::expressions::{begins_base, take_operand};
-use porch_walk::{Level, Step, Taken};
 use crate::take::{Here, put, take};
 use porch_tree::{Keyword, Mark, TagSort, Word};
-use porch_walk::{Mode, Naming, is_word};
+use porch_walk::{Level, Mode, Naming, Step, Taken, is_word};
 use std::alloc::AllocError;
 
 /// What a brace was read of behind `struct` or `enum`.

@@ -6,10 +6,9 @@ ghost use Rattle.porch_walk.specs.Plans.{ahead, took, rest, rest_kept, opening, 
 ghost use Rattle.porch_walk.specs.Walk.{takes_type};
 ghost use Rattle.porch_depth.specs.inside.Takes.{with_steps, outcome, TookBy};
 
-use porch_walk::{Level, Step, Taken};
 use crate::take::{Here, put, take};
 use porch_tree::{Keyword, Mark, Word};
-use porch_walk::{Mode, is_assigning, is_infix, is_word};
+use porch_walk::{Level, Mode, Step, Taken, is_assigning, is_infix, is_word};
 use std::alloc::AllocError;
 
 /// Whether a word begins an operand.

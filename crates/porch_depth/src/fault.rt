@@ -11,7 +11,7 @@ ghost use Rattle.porch_walk.specs.Wrongs.{wrong_of};
 use crate::along::{Reader, read_tokens};
 use crate::sweep::first_deep;
 use porch_lex::Token;
-use porch_walk::laws::{units_show_their_uses, what_is_shown_is_had};
+use porch_walk::laws::{each_unit_shows_its_uses, what_is_shown_is_had};
 use porch_walk::{TokenWalk, WalkFault, WrongToken, first_wrong};
 use std::alloc::{AllocError, Global};
 
@@ -49,7 +49,7 @@ pub fn first_fault(
     ensures first { IfOk result
         (λ found. IsFound (spelled text.now tokens.now) (found_of found)) }
 {
-    units_show_their_uses();
+    each_unit_shows_its_uses();
     what_is_shown_is_had();
     let wrong = first_wrong(alloc, text, tokens)?;
     match deep_token(alloc, text, read_part(tokens, wrong))? {

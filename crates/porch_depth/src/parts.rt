@@ -14,11 +14,10 @@ use crate::declarations::{
 use crate::expressions::{
     begins_base, begins_operand, take_opened, take_operand, take_operator, take_suffix,
 };
-use porch_walk::{Level, Reading, Step, Taken};
 use crate::statements::take_statement;
 use crate::take::{Here, lie, take, take_if};
 use porch_tree::{Keyword, Mark, TagSort, Word};
-use porch_walk::{Kinds, Mode, Naming, Symbol, is_word, kinds_with};
+use porch_walk::{Kinds, Level, Mode, Naming, Reading, Step, Symbol, Taken, is_word, kinds_with};
 use std::alloc::AllocError;
 
 // what is behind `struct` or `enum`, or behind a tag

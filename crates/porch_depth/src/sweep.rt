@@ -5,8 +5,8 @@ ghost use Rattle.porch_walk.specs.Levels.{shown};
 ghost use Rattle.porch_depth.specs.Levels.{deep_from};
 ghost use Rattle.porch_depth.specs.inside.Reads.{IsSwept};
 
-use porch_walk::Reading;
 use crate::take::more_uses;
+use porch_walk::Reading;
 use std::alloc::{AllocError, Global};
 
 /// The most counted uses of the grammar that may lie in one another.

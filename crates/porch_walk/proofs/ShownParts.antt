@@ -421,8 +421,8 @@ module _ (types : List (List ℕ)) (i : Bool) where
     expr_shows (row v a xs) g =
         let q = expr_shows a g.1 in
         let left : Left (row v a xs) = λ u r f ss l ls os k d ps s n t.
-            q.left u (tighter_condition types i v a g.0) r.0 f ss l ls os k d _ s (operands_parts types i xs d ps n)
-            (λ b new m w. operands_show v xs g.3 r.1 f ss b ls new k d ps (m.uses) n (λ more y. t b more m (both w y))) in
+        q.left u (tighter_condition types i v a g.0) r.0 f ss l ls os k d _ s (operands_parts types i xs d ps n)
+        (λ b new m w. operands_show v xs g.3 r.1 f ss b ls new k d ps (m.uses) n (λ more y. t b more m (both w y))) in
         record {
           primary = λ h. absurd h;
           unary = λ h. absurd h;

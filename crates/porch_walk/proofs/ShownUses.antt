@@ -85,9 +85,9 @@ shown_next s next ls os t p ts ps m e h =
     let n : length os + 1 ≡ length (seen_by r.reading p.uses os) = one_more (length os) ∙ sym (ap suc (deepened_length (r.reading.back) os)) in
     let rs = readings next r.levels (length (seen_by r.reading p.uses os)) ts in
     let q : readings s ls (length os) (t ∷ ts) ≡ r.reading ∷ rs =
-        ap (λ o. readings_from o (λ v. (read (knows s t) (length os) t.word s.pending ls).reading ∷ readings v (read (knows s t) (length os) t.word s.pending ls).levels (length os + 1) ts)) (step_same s t.word p.word t.bytes p.bytes m.word m.bytes ∙ e)
-        ∙ ap (λ (v : Read). v.reading ∷ readings next v.levels (length os + 1) ts) (read_same s ls os t p m)
-        ∙ ap (λ k. r.reading ∷ readings next r.levels k ts) n in
+    ap (λ o. readings_from o (λ v. (read (knows s t) (length os) t.word s.pending ls).reading ∷ readings v (read (knows s t) (length os) t.word s.pending ls).levels (length os + 1) ts)) (step_same s t.word p.word t.bytes p.bytes m.word m.bytes ∙ e)
+    ∙ ap (λ (v : Read). v.reading ∷ readings next v.levels (length os + 1) ts) (read_same s ls os t p m)
+    ∙ ap (λ k. r.reading ∷ readings next r.levels k ts) n in
     record {
       uses = ap shown q ∙ ap (λ u. u ∷ shown rs) (h.paid.0) ∙ ap (λ us. p.uses ∷ us) (h.uses);
       paid = subst (λ v. ArePaid 0 os v) (sym q) (reached (r.reading.back) 0 os r.reading rs (from_zero (r.reading.back)) (h.paid.1));

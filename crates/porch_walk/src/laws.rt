@@ -31,7 +31,7 @@ pub fn the_first_fault_is_told()
 
 /// Over the tokens of a unit the walk shows of each just the counted uses that its piece lies in, however
 /// deep these are.
-pub fn units_show_their_uses()
+pub fn each_unit_shows_its_uses()
     ensures { (ts : List Spelled) (u : TranslationUnit) → IsDeepUnit ts u
         → uses_shown ts ≡ map (λ (p : Piece). p.uses) (unit_pieces u) }
 {}

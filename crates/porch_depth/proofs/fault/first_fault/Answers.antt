@@ -6,7 +6,7 @@ use Rattle.porch_depth.proofs.fault.first_fault.Goals as goal
 
 pub returns-in-Some : goal.returns-in-Some
 returns-in-Some c =
-    let laws : Laws = record { units = c.units_show_their_uses.ensures; had = c.what_is_shown_is_had.ensures } in
+    let laws : Laws = record { units = c.each_unit_shows_its_uses.ensures; had = c.what_is_shown_is_had.ensures } in
     let e = fault_is c.args.text.now c.args.tokens.now _ _ _ _ c.in_ok-wrong.ensures.exact c.read_part.ensures c.in_ok-token.ensures c.in-Some.is in
     record {
       exact = e;
@@ -15,7 +15,7 @@ returns-in-Some c =
 
 pub returns-in-None : goal.returns-in-None
 returns-in-None c =
-    let laws : Laws = record { units = c.units_show_their_uses.ensures; had = c.what_is_shown_is_had.ensures } in
+    let laws : Laws = record { units = c.each_unit_shows_its_uses.ensures; had = c.what_is_shown_is_had.ensures } in
     let e = c.told.ensures ∙ fault_is c.args.text.now c.args.tokens.now _ _ _ _ c.in_ok-wrong.ensures.exact c.read_part.ensures c.in_ok-token.ensures c.in-None.is in
     record {
       exact = e;
