@@ -1,16 +1,14 @@
--- The first token that lies too deep is one of those that were read, and what is named by it.
+-- The first token that is shown to lie too deep is one of those that were read.
 use Rattle.std.proofs.Common.{◌≡◌, ◌<◌, ◌≤◌, ◌+◌, ℕ, zero, suc, Bool, true, false, nat_lt, if◌then◌else◌, List, [], ◌∷◌, length, take, get_or, Option, Some, None, refl, sym, subst, ap, ◌∙◌, arith}
 use Rattle.std.proofs.lemmas.Bool.{ltb-true, ltb-false}
 use Rattle.porch_tree.specs.Pieces.{Spelled}
-use Rattle.porch_tree.specs.Grammar.{MOST_USES, Fault, nesting, IsReach}
-use Rattle.porch_walk.specs.Walk.{Stage, step, start, Wrong}
-use Rattle.porch_walk.specs.Walk as walk
+use Rattle.porch_tree.specs.Grammar.{MOST_USES}
+use Rattle.porch_walk.specs.Walk.{Stage, step, start}
 use Rattle.porch_walk.specs.Walks.{knows}
-use Rattle.porch_walk.specs.Reach.{IsReachOf}
-use Rattle.porch_depth.specs.declared.level.Level.{Level}
-use Rattle.porch_depth.specs.declared.level.Reading.{Reading}
-use Rattle.porch_depth.specs.Levels.{read, readings, readings_from, shown, uses_shown, deep_from, first_deep, reach_of, nesting_or, first_fault}
-use Rattle.porch_depth.specs.Told.{IsShownTooDeep, IsShownFault, too_deep, wrong, IsFound}
+use Rattle.porch_walk.specs.declared.level.Level.{Level}
+use Rattle.porch_walk.specs.declared.level.Reading.{Reading}
+use Rattle.porch_walk.specs.Levels.{read, readings, readings_from, shown}
+use Rattle.porch_depth.specs.Levels.{deep_from, first_deep}
 
 some_same : (i j : ℕ) → Some i ≡ Some j → i ≡ j
 some_same i j e = cc
@@ -58,7 +56,7 @@ deep_least (n ∷ ns) i j e = by (deep_least ns (i + 1) j) (nat_lt MOST_USES n) 
     by f true h = let k = some_same i j h in omega (arith, k)
     by f false h = let k = f h in omega (arith, k)
 
-deep_at : (ns : List ℕ) (i k : ℕ) → deep_from i ns ≡ Some (i + k) → MOST_USES < get_or ns k 0
+pub deep_at : (ns : List ℕ) (i k : ℕ) → deep_from i ns ≡ Some (i + k) → MOST_USES < get_or ns k 0
 deep_at [] i k e = cc
 deep_at (n ∷ ns) i k e = by (deep_at ns (i + 1)) k (nat_lt MOST_USES n) refl e
   where
@@ -68,7 +66,7 @@ deep_at (n ∷ ns) i k e = by (deep_at ns (i + 1)) k (nat_lt MOST_USES n) refl e
     by f zero false q e = absurd (let h = deep_least ns (i + 1) (i + 0) e in omega (arith, h))
     by f (suc k) false q e = f k (let s : i + suc k ≡ i + 1 + k = omega arith in e ∙ ap Some s)
 
-not_before : (ns : List ℕ) (i k m : ℕ) → deep_from i ns ≡ Some (i + k) → m < k → MOST_USES < get_or ns m 0 → ⊥
+pub not_before : (ns : List ℕ) (i k m : ℕ) → deep_from i ns ≡ Some (i + k) → m < k → MOST_USES < get_or ns m 0 → ⊥
 not_before [] i k m e h l = cc
 not_before (n ∷ ns) i k m e h l = by (not_before ns (i + 1)) k m (nat_lt MOST_USES n) refl e h l
   where
@@ -78,7 +76,7 @@ not_before (n ∷ ns) i k m e h l = by (not_before ns (i + 1)) k m (nat_lt MOST_
     by f (suc k) zero false q e h l = let a = ltb-false MOST_USES n q in omega (arith, a)
     by f (suc k) (suc m) false q e h l = f k m (let s : i + suc k ≡ i + 1 + k = omega arith in e ∙ ap Some s) (omega (arith, h)) l
 
-nowhere : (ns : List ℕ) (i m : ℕ) → deep_from i ns ≡ None → MOST_USES < get_or ns m 0 → ⊥
+pub nowhere : (ns : List ℕ) (i m : ℕ) → deep_from i ns ≡ None → MOST_USES < get_or ns m 0 → ⊥
 nowhere [] i m e l = omega (arith, l)
 nowhere (n ∷ ns) i m e l = by (nowhere ns (i + 1)) m (nat_lt MOST_USES n) refl e l
   where
@@ -86,28 +84,3 @@ nowhere (n ∷ ns) i m e l = by (nowhere ns (i + 1)) m (nat_lt MOST_USES n) refl
     by f m true q e l = cc
     by f zero false q e l = let a = ltb-false MOST_USES n q in omega (arith, a)
     by f (suc m) false q e l = f m e l
-
--- What is named by that.
-
-deep_named : (ts : List Spelled) (place i : ℕ) (found : Option Fault) → IsReach ts place found → first_deep (take place ts) ≡ Some i → IsShownFault ts i nesting
-deep_named ts place i found r e =
-    let z : i ≡ 0 + i = omega arith in
-    let k : first_deep (take place ts) ≡ Some (0 + i) = e ∙ ap Some z in
-    too_deep place i found r (record { before = deep_before place i ts e; deep = deep_at (uses_shown (take place ts)) 0 i k })
-    (λ j h d. not_before (uses_shown (take place ts)) 0 i j k h d.deep)
-
-none_deep : (ts : List Spelled) (place : ℕ) → first_deep (take place ts) ≡ None → (j : ℕ) → IsShownTooDeep ts place j → ⊥
-none_deep ts place e j d = nowhere (uses_shown (take place ts)) 0 j e d.deep
-
-found_by : (ts : List Spelled) (w : Option Wrong) (o : Option ℕ) → IsReachOf ts w → first_deep (take (reach_of ts w) ts) ≡ o → IsFound ts (nesting_or o w)
-found_by ts None None h e = record { unit = h; shallow = none_deep ts (length ts) e }
-found_by ts None (Some i) h e = deep_named ts (length ts) i None h e
-found_by ts (Some w) None h e = wrong w.token w.fault h (none_deep ts w.token e)
-found_by ts (Some w) (Some i) h e = deep_named ts w.token i (Some w.fault) h e
-
-pub found : (ts : List Spelled) → IsReachOf ts (walk.wrong 0 start ts) → IsFound ts (first_fault ts)
-found ts h = found_by ts (walk.wrong 0 start ts) (first_deep (take (reach_of ts (walk.wrong 0 start ts)) ts)) h refl
-
--- what an answer says that is the definition's
-pub found_as : (ts : List Spelled) (w o : Option Wrong) → w ≡ walk.wrong 0 start ts → IsReachOf ts w → o ≡ first_fault ts → IsFound ts o
-found_as ts w o e h k = subst (λ q. IsFound ts q) (sym k) (found ts (subst (λ q. IsReachOf ts q) e h))

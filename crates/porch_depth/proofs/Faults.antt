@@ -5,7 +5,8 @@ use Rattle.porch_lex.specs.Words.{spelled_token, spelled}
 use Rattle.porch_walk.specs.Walk.{start, Wrong, wrong}
 use Rattle.porch_walk.specs.Walks.{IsAt}
 use Rattle.porch_depth.specs.declared.along.Reader.{Reader}
-use Rattle.porch_depth.specs.Levels.{reach_of, first_deep, nesting_or, first_fault}
+use Rattle.porch_walk.specs.Reach.{reach_of}
+use Rattle.porch_depth.specs.Levels.{first_deep, nesting_or, first_fault}
 use Rattle.porch_depth.specs.inside.Reads.{HasRead, front_of}
 
 pub all_read : (n : ℕ) (ts : List Token) → length ts ≤ n → take n ts ≡ ts

@@ -8,10 +8,10 @@ use Rattle.porch_lex.specs.Words.{spelled_token, spelled}
 use Rattle.porch_walk.specs.declared.symbol.Symbol.{Symbol}
 use Rattle.porch_walk.specs.Walk.{Stage, start}
 use Rattle.porch_walk.specs.Walks.{Took, knows, step_by}
-use Rattle.porch_depth.specs.declared.level.Level.{Level}
-use Rattle.porch_depth.specs.declared.level.Reading.{Reading}
+use Rattle.porch_walk.specs.declared.level.Level.{Level}
+use Rattle.porch_walk.specs.declared.level.Reading.{Reading}
 use Rattle.porch_depth.specs.declared.along.Reader.{Reader}
-use Rattle.porch_depth.specs.Levels.{Read, read, readings, readings_from}
+use Rattle.porch_walk.specs.Levels.{Read, read, readings, readings_from}
 use Rattle.porch_depth.specs.inside.Takes.{is_read}
 use Rattle.porch_depth.specs.inside.Reads.{read_at, IsReadOn, ReadOn, HasRead}
 

@@ -3,9 +3,10 @@ use Rattle.std.proofs.Common.{◌≡◌, ◌≤◌, ◌+◌, ℕ, suc, Bool, tru
 use Rattle.porch_tree.specs.Pieces.{Spelled}
 use Rattle.porch_walk.specs.Walk.{Stage, step, start}
 use Rattle.porch_walk.specs.Walks.{knows}
-use Rattle.porch_depth.specs.declared.level.Level.{Level}
-use Rattle.porch_depth.specs.declared.level.Reading.{Reading}
-use Rattle.porch_depth.specs.Levels.{read, readings, readings_from, covering, shown, uses_shown, AreAtLeast}
+use Rattle.porch_walk.specs.declared.level.Level.{Level}
+use Rattle.porch_walk.specs.declared.level.Reading.{Reading}
+use Rattle.porch_walk.specs.Levels.{read, readings, readings_from, covering, shown, uses_shown}
+use Rattle.porch_depth.specs.Levels.{AreAtLeast}
 
 record Longer (later earlier : List Reading) : Type 0 where
   more : List Reading

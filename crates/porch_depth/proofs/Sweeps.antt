@@ -1,8 +1,8 @@
 -- Late uses, one more token back.
 use Rattle.std.proofs.Common.{◌≡◌, ◌<◌, ◌+◌, ◌-◌, ℕ, suc, Bool, true, false, nat_eq, nat_lt, if◌then◌else◌, List, [], ◌∷◌, get_or, refl, sym, ap, ◌∙◌, arith}
-use Rattle.porch_depth.specs.declared.level.Reading.{Reading}
+use Rattle.porch_walk.specs.declared.level.Reading.{Reading}
 use Rattle.porch_depth.specs.declared.sweep.Sweep.{Sweep}
-use Rattle.porch_depth.specs.Levels.{covering}
+use Rattle.porch_walk.specs.Levels.{covering}
 use Rattle.porch_depth.specs.inside.Reads.{ending, IsSwept}
 
 abbrev pub one_if : Bool → ℕ

@@ -2,11 +2,11 @@
 use Rattle.std.proofs.Common.{◌≡◌, ◌≤◌, ℕ, zero, suc, List, [], ◌∷◌, ◌++◌, map, reverse, take, length, refl, ap, ◌∙◌, arith}
 use mathlib.Core.List.{reverse_aux}
 use Rattle.std.proofs.lemmas.List.{reverse-append}
-use Rattle.porch_depth.specs.declared.level.Level.{Level}
-use Rattle.porch_depth.specs.declared.level.Step.{Step}
+use Rattle.porch_walk.specs.declared.level.Level.{Level}
+use Rattle.porch_walk.specs.declared.level.Step.{Step}
 use Rattle.porch_depth.specs.declared.take.Here.{Here}
 use Rattle.porch_depth.specs.inside.Takes.{with_steps}
-use Rattle.porch_depth.specs.Levels.{placed}
+use Rattle.porch_walk.specs.Levels.{placed}
 
 map_turned : (h : Here) (ss above : List Step) → reverse_aux (map (placed h.level h.token) ss) (map (placed h.level h.token) above) ≡ map (placed h.level h.token) (reverse_aux ss above)
 map_turned h [] above = refl

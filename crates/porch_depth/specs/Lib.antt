@@ -1,6 +1,4 @@
--- what a part of the walk does with a word to the uses of the grammar
-pub mod Plans
--- how many uses each token is shown to lie in, and the first fault
+-- the first token that is shown to lie too deep, and the first fault
 pub mod Levels
 -- small texts, and texts with many parentheses
 pub mod Worked

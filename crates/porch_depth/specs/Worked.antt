@@ -11,7 +11,7 @@ use Rattle.porch_tree.specs.declared.tree.Infix.TheVariants.{Add, Mul}
 use Rattle.porch_tree.specs.declared.tree.Level.TheVariants as tier
 use Rattle.porch_tree.specs.Mirror.{Name, Expr, name, whole, texts, nested, suffixed, prefixed, size_of, cast, row, conditional, assign, sequence, no_exprs, with_expr, no_operands, with_operand, absent, present, index, call, member, arrow, increased, no_suffixes, with_suffix, Base, kind, void, typedef_name, structure, enumeration, field, no_fields, with_field, constant, no_constants, with_constant, Declarator, declarator, no_declarators, with_declarator, Core, lacking, named, inner, count, empty_list, void_list, param_list, Brackets, no_brackets, with_bracket, param, no_params, with_param, TypeName, type_name, value, braced, no_initials, with_initial, Entry, Declaration, block, evaluate, choose_else, while_loop, do_loop, for_loop, switch, break, continue, give, no_stmts, with_stmt, case, default, stmt, no_entries, with_entry, typedef, declaration, function, TranslationUnit}
 use Rattle.porch_tree.specs.Pieces.{Spelled, Piece, unit_pieces}
-use Rattle.porch_depth.specs.Levels.{uses_shown}
+use Rattle.porch_walk.specs.Levels.{uses_shown}
 
 -- a token whose place and bytes don't matter
 abbrev pub token : Word → Spelled

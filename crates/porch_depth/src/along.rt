@@ -4,13 +4,12 @@ ghost use Rattle.std.specs.Prelude.{◌≡◌, [], IfOk};
 ghost use Rattle.porch_lex.specs.Words.{spelled_token, spelled};
 ghost use Rattle.porch_walk.specs.Walk.{Stage, start};
 ghost use Rattle.porch_walk.specs.Walks.{IsAt};
-ghost use Rattle.porch_depth.specs.Levels.{readings};
+ghost use Rattle.porch_walk.specs.Levels.{readings};
 ghost use Rattle.porch_depth.specs.inside.Reads.{ReadOn, HasRead};
 
-use crate::level::{Level, Reading};
 use crate::read::read;
 use porch_lex::{Token, word_at};
-use porch_walk::TokenWalk;
+use porch_walk::{Level, Reading, TokenWalk};
 use std::alloc::{AllocError, Global};
 
 /// What was read of a text.

@@ -3,14 +3,13 @@
 ghost use Rattle.std.specs.Prelude.{◌≡◌, ◌≤◌, ◌&&◌, ◌++◌, [], ◌∷◌, reverse, IfOk, false};
 ghost use Rattle.porch_tree.specs.declared.word.Word.TheVariants as Word;
 ghost use Rattle.porch_walk.specs.Walk.{may_name, may_lack};
-ghost use Rattle.porch_depth.specs.Plans.{ahead, contents, core_opened, declarator, more_parameters, nameless, parameters, behind_void, count, entries, more_entries, entry, initial};
+ghost use Rattle.porch_walk.specs.Plans.{ahead, contents, core_opened, declarator, more_parameters, nameless, parameters, behind_void, count, entries, more_entries, entry, initial};
 ghost use Rattle.porch_depth.specs.inside.Takes.{with_steps, outcome, TookBy};
 
 use crate::expressions::{begins_base, take_operand};
-use crate::level::{Level, Step, Taken};
 use crate::take::{Here, put, take};
 use porch_tree::{Keyword, Mark, TagSort, Word};
-use porch_walk::{Mode, Naming, is_word};
+use porch_walk::{Level, Mode, Naming, Step, Taken, is_word};
 use std::alloc::AllocError;
 
 /// What a brace was read of behind `struct` or `enum`.

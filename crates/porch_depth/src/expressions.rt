@@ -2,14 +2,13 @@
 
 ghost use Rattle.std.specs.Prelude.{◌≡◌, ◌≤◌, ◌++◌, [], ◌∷◌, reverse, IfOk, option_map, true};
 ghost use Rattle.porch_tree.specs.declared.word.Word.TheVariants as Word;
-ghost use Rattle.porch_depth.specs.Plans.{ahead, took, rest, rest_kept, opening, unary, operand, open_type, nested, opened, suffix, operators, late, begins_operand, begins_base};
+ghost use Rattle.porch_walk.specs.Plans.{ahead, took, rest, rest_kept, opening, unary, operand, open_type, nested, opened, suffix, operators, late, begins_operand, begins_base};
 ghost use Rattle.porch_walk.specs.Walk.{takes_type};
 ghost use Rattle.porch_depth.specs.inside.Takes.{with_steps, outcome, TookBy};
 
-use crate::level::{Level, Step, Taken};
 use crate::take::{Here, put, take};
 use porch_tree::{Keyword, Mark, Word};
-use porch_walk::{Mode, is_assigning, is_infix, is_word};
+use porch_walk::{Level, Mode, Step, Taken, is_assigning, is_infix, is_word};
 use std::alloc::AllocError;
 
 /// Whether a word begins an operand.

@@ -2,7 +2,7 @@
 
 ghost use Rattle.std.specs.Prelude.{◌≡◌, IfOk, take};
 ghost use Rattle.porch_lex.specs.Words.{spelled};
-ghost use Rattle.porch_depth.specs.Levels.{first_deep, first_fault, reach_of};
+ghost use Rattle.porch_depth.specs.Levels.{first_deep, first_fault};
 ghost use Rattle.porch_depth.specs.Faults.{found_of};
 ghost use Rattle.porch_depth.specs.Told.{IsFound};
 ghost use Rattle.porch_depth.specs.inside.Reads.{front_of};
@@ -11,6 +11,7 @@ ghost use Rattle.porch_walk.specs.Wrongs.{wrong_of};
 use crate::along::{Reader, read_tokens};
 use crate::sweep::first_deep;
 use porch_lex::Token;
+use porch_walk::laws::{each_unit_shows_its_uses, what_is_shown_is_had};
 use porch_walk::{TokenWalk, WalkFault, WrongToken, first_wrong};
 use std::alloc::{AllocError, Global};
 
@@ -44,10 +45,12 @@ pub fn first_fault(
     ensures exact { IfOk result
         (λ found. found_of found ≡ first_fault (spelled text.now tokens.now)) }
 
-    // This is the grammar's first fault, but that a token lies too deep goes by the uses that are shown of it.
-    ensures told { IfOk result
+    // This is the first fault by the grammar, or a unit has the tokens, none of which lies too deep.
+    ensures first { IfOk result
         (λ found. IsFound (spelled text.now tokens.now) (found_of found)) }
 {
+    each_unit_shows_its_uses();
+    what_is_shown_is_had();
     let wrong = first_wrong(alloc, text, tokens)?;
     match deep_token(alloc, text, read_part(tokens, wrong))? {
         Some(token) => Ok(Some(FaultyToken {

@@ -1,8 +1,8 @@
 //! The first fault of a text by the grammar: too deep nesting, a token that can't come, or a token outside
 //! the language. `first_fault` is the one call.
 //!
-//! `specs/Plans` has what each part of the grammar does to the uses that are counted, `specs/Levels` how many
-//! uses each token is shown to lie in, `laws` what holds of them, and `worked` what they are in some texts.
+//! How many uses each token is shown to lie in is porch_walk's `specs/Levels`, and `specs/Levels` here has the
+//! first fault by it; `laws` has what holds of these uses, and `worked` what they are in some texts.
 #![tactic(auto)]
 
 mod along;
@@ -10,7 +10,6 @@ mod declarations;
 mod expressions;
 pub mod fault;
 pub mod laws;
-pub mod level;
 mod parts;
 mod read;
 mod statements;
@@ -19,4 +18,4 @@ mod take;
 pub mod worked;
 
 pub use fault::{FaultyToken, GrammarFault, first_fault};
-pub use level::{Level, Reading, Step, Taken};
+pub use porch_walk::{Level, Reading, Step, Taken};

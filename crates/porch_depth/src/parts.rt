@@ -4,7 +4,7 @@ ghost use Rattle.std.specs.Prelude.{◌≡◌, ◌||◌, [], ◌∷◌, reverse,
 ghost use Rattle.porch_tree.specs.declared.word.Mark.TheVariants as mark;
 ghost use Rattle.porch_walk.specs.declared.symbol.Symbol.TheVariants as symbol;
 ghost use Rattle.porch_walk.specs.Walk.{is_mark, kinds_of};
-ghost use Rattle.porch_depth.specs.Plans.{took, item, plan, is_kind};
+ghost use Rattle.porch_walk.specs.Plans.{took, item, plan, is_kind};
 ghost use Rattle.porch_depth.specs.inside.Takes.{TookBy, goes_on, outcome};
 
 use crate::declarations::{
@@ -14,11 +14,10 @@ use crate::declarations::{
 use crate::expressions::{
     begins_base, begins_operand, take_opened, take_operand, take_operator, take_suffix,
 };
-use crate::level::{Level, Reading, Step, Taken};
 use crate::statements::take_statement;
 use crate::take::{Here, lie, take, take_if};
 use porch_tree::{Keyword, Mark, TagSort, Word};
-use porch_walk::{Kinds, Mode, Naming, Symbol, is_word, kinds_with};
+use porch_walk::{Kinds, Level, Mode, Naming, Reading, Step, Symbol, Taken, is_word, kinds_with};
 use std::alloc::AllocError;
 
 // what is behind `struct` or `enum`, or behind a tag

@@ -1,15 +1,14 @@
 //! One token: how many uses it lies in, and the levels of the parts that may come behind it.
 
 ghost use Rattle.std.specs.Prelude.{◌≡◌, ◌+◌, ◌-◌, [], ◌∷◌, reverse, IfOk, if◌then◌else◌};
-ghost use Rattle.porch_depth.specs.Levels.{GROUND, top, under, read, read_by};
-ghost use Rattle.porch_depth.specs.Plans.{item, plan};
+ghost use Rattle.porch_walk.specs.Levels.{GROUND, top, under, read, read_by};
+ghost use Rattle.porch_walk.specs.Plans.{item, plan};
 ghost use Rattle.porch_depth.specs.inside.Takes.{TookBy, Offered, outcome, is_read};
 
-use crate::level::{Level, Reading, Taken};
 use crate::parts::{take_item, take_symbol};
 use crate::take::{Here, more_uses};
 use porch_tree::Word;
-use porch_walk::Symbol;
+use porch_walk::{Level, Reading, Symbol, Taken};
 use std::alloc::AllocError;
 
 /// The level where no part may come.

@@ -2,14 +2,13 @@
 
 ghost use Rattle.std.specs.Prelude.{◌≡◌, ◌≤◌, ◌++◌, [], ◌∷◌, reverse, IfOk};
 ghost use Rattle.porch_tree.specs.declared.word.Word.TheVariants as Word;
-ghost use Rattle.porch_depth.specs.Plans.{ahead, statement_key, statement_word, expression, statement};
+ghost use Rattle.porch_walk.specs.Plans.{ahead, statement_key, statement_word, expression, statement};
 ghost use Rattle.porch_depth.specs.inside.Takes.{with_steps, outcome, TookBy};
 
 use crate::expressions::{begins_operand, take_operand};
-use crate::level::{Level, Step, Taken};
 use crate::take::{Here, put, take_before};
 use porch_tree::{Keyword, Mark, Word};
-use porch_walk::{Mode, is_word};
+use porch_walk::{Level, Mode, Step, Taken, is_word};
 use std::alloc::AllocError;
 
 // a statement that begins with a keyword

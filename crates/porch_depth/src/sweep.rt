@@ -1,11 +1,12 @@
 //! From what each token shows to the first that lies too deep: backwards over the tokens.
 
 ghost use Rattle.std.specs.Prelude.{◌≡◌, ◌<◌, ◌+◌, ◌∷◌, IfOk, List, length};
-ghost use Rattle.porch_depth.specs.Levels.{shown, deep_from};
+ghost use Rattle.porch_walk.specs.Levels.{shown};
+ghost use Rattle.porch_depth.specs.Levels.{deep_from};
 ghost use Rattle.porch_depth.specs.inside.Reads.{IsSwept};
 
-use crate::level::Reading;
 use crate::take::more_uses;
+use porch_walk::Reading;
 use std::alloc::{AllocError, Global};
 
 /// The most counted uses of the grammar that may lie in one another.

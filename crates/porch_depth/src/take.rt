@@ -1,11 +1,11 @@
 //! What a token does to the levels of the parts that may come behind it.
 
 ghost use Rattle.std.specs.Prelude.{◌≡◌, ◌+◌, ◌++◌, [], ◌∷◌, map, reverse, IfOk, if◌then◌else◌, Some, None};
-ghost use Rattle.porch_depth.specs.Levels.{placed};
-ghost use Rattle.porch_depth.specs.Plans.{ahead, took, Plan};
+ghost use Rattle.porch_walk.specs.Levels.{placed};
+ghost use Rattle.porch_walk.specs.Plans.{ahead, took, Plan};
 ghost use Rattle.porch_depth.specs.inside.Takes.{with_steps, outcome, TookBy};
 
-use crate::level::{Level, Step, Taken};
+use porch_walk::{Level, Step, Taken};
 use std::alloc::AllocError;
 
 /// The part that a token is offered to, and the token's number.

@@ -1,15 +1,18 @@
 -- What a text is answered with is one thing.
-use Rattle.std.proofs.Common.{◌≡◌, ◌≤◌, ◌<◌, ℕ, true, false, zero, suc, List, [], ◌∷◌, map, drop, length, Option, Some, None, IsTrue, slice_get, refl, sym, subst, ap, ◌∙◌, inl, inr, arith}
+use Rattle.std.proofs.Common.{◌≡◌, ◌≤◌, ◌<◌, ℕ, true, false, zero, suc, List, [], ◌∷◌, map, take, drop, length, All, Option, Some, None, IsTrue, slice_get, refl, sym, subst, ap, ◌∙◌, inl, inr, arith}
+use Rattle.std.proofs.Math.Seq.{take-length}
 use Rattle.std.proofs.lemmas.Bool.{cases_order}
-use Rattle.porch_tree.specs.Pieces.{Spelled, unit_pieces}
-use Rattle.porch_tree.specs.Grammar.{Fault, IsDeepUnit, IsReach, Halts, at_outside, at_stop, at_unit, IsOutside, Stops, at_token, at_end, place_of, inside_at, is_outside}
+use Rattle.std.proofs.lemmas.List.{append-nil}
+use Rattle.porch_tree.specs.Pieces.{Spelled, Piece, unit_pieces}
+use Rattle.porch_tree.specs.Grammar.{Fault, MOST_USES, IsDeepUnit, IsUnit, Begins, IsTooDeep, IsReach, Halts, at_outside, at_stop, at_unit, IsOutside, Stops, at_token, at_end, place_of, inside_at, uses_at, is_outside}
 use Rattle.porch_tree.specs.Mirror.{TranslationUnit}
 use Rattle.porch_lex.specs.declared.refusal.Rule.{Rule}
 use Rattle.porch_lex.specs.declared.refusal.Refusal.{Refusal}
 use Rattle.porch_lex.specs.declared.token.Token.{Token}
 use Rattle.porch_lex.specs.Tokens.{IsTokens, IsFirstLexFault}
 use Rattle.porch_lex.specs.Words.{spelled}
-use Rattle.porch_depth.specs.Told.{IsShownTooDeep, IsShownUnit, IsShownFault, too_deep, wrong}
+use Rattle.porch_tree.specs.Grammar as grammar
+use Rattle.porch_depth.specs.Told.{IsFaultless}
 use Rattle.porch_syntax.specs.Tree.{Program}
 use Rattle.porch_syntax.specs.Language.{IsSource}
 use Rattle.porch_source.specs.Comments.{without_comments}
@@ -79,11 +82,11 @@ refusal_is r s a b =
     ap (λ at. make at r.rule) a ∙ ap (λ rule. make s.at rule) b
 
 -- A token that lies too deep before one place does so before the other.
-deep_there : (ts : List Spelled) (p q i : ℕ) (f g : Option Fault) → IsReach ts p f → IsReach ts q g → IsShownTooDeep ts p i → IsShownTooDeep ts q i
-deep_there ts p q i f g a b d = subst (λ k. IsShownTooDeep ts k i) (same_place ts p q f g a b) d
+deep_there : (ts : List Spelled) (p q i : ℕ) (f g : Option Fault) → IsReach ts p f → IsReach ts q g → IsTooDeep ts p i → IsTooDeep ts q i
+deep_there ts p q i f g a b d = subst (λ k. IsTooDeep ts k i) (same_place ts p q f g a b) d
 
-token_alone : (ts : List Spelled) (i j : ℕ) (f g : Fault) → IsShownFault ts i f → IsShownFault ts j g → i ≡ j
-token_alone ts i j f g (too_deep p k o r d n) (too_deep q m o' r' d' n') =
+token_alone : (ts : List Spelled) (i j : ℕ) (f g : Fault) → grammar.IsFault ts i f → grammar.IsFault ts j g → i ≡ j
+token_alone ts i j f g (grammar.too_deep p k o r d n) (grammar.too_deep q m o' r' d' n') =
     elim (cases_order k m) [
       | inl e ↦ e
       | inr h ↦ elim h [
@@ -91,34 +94,48 @@ token_alone ts i j f g (too_deep p k o r d n) (too_deep q m o' r' d' n') =
         | inr l ↦ absurd (n m l (deep_there ts q p m o' o r' r d'))
       ]
     ]
-token_alone ts i j f g (too_deep p k o r d n) (wrong m w r' n') = absurd (n' k (deep_there ts p m k o (Some w) r r' d))
-token_alone ts i j f g (wrong k v r n) (too_deep q m o' r' d' n') = absurd (n m (deep_there ts q k m o' (Some v) r' r d'))
-token_alone ts i j f g (wrong k v r n) (wrong m w r' n') = same_place ts k m (Some v) (Some w) r r'
+token_alone ts i j f g (grammar.too_deep p k o r d n) (grammar.wrong m w r' n') = absurd (n' k (deep_there ts p m k o (Some w) r r' d))
+token_alone ts i j f g (grammar.wrong k v r n) (grammar.too_deep q m o' r' d' n') = absurd (n m (deep_there ts q k m o' (Some v) r' r d'))
+token_alone ts i j f g (grammar.wrong k v r n) (grammar.wrong m w r' n') = same_place ts k m (Some v) (Some w) r r'
 
-fault_alone : (ts : List Spelled) (i j : ℕ) (f g : Fault) → IsShownFault ts i f → IsShownFault ts j g → f ≡ g
-fault_alone ts i j f g (too_deep p k o r d n) (too_deep q m o' r' d' n') = refl
-fault_alone ts i j f g (too_deep p k o r d n) (wrong m w r' n') = absurd (n' k (deep_there ts p m k o (Some w) r r' d))
-fault_alone ts i j f g (wrong k v r n) (too_deep q m o' r' d' n') = absurd (n m (deep_there ts q k m o' (Some v) r' r d'))
-fault_alone ts i j f g (wrong k v r n) (wrong m w r' n') =
+fault_alone : (ts : List Spelled) (i j : ℕ) (f g : Fault) → grammar.IsFault ts i f → grammar.IsFault ts j g → f ≡ g
+fault_alone ts i j f g (grammar.too_deep p k o r d n) (grammar.too_deep q m o' r' d' n') = refl
+fault_alone ts i j f g (grammar.too_deep p k o r d n) (grammar.wrong m w r' n') = absurd (n' k (deep_there ts p m k o (Some w) r r' d))
+fault_alone ts i j f g (grammar.wrong k v r n) (grammar.too_deep q m o' r' d' n') = absurd (n m (deep_there ts q k m o' (Some v) r' r d'))
+fault_alone ts i j f g (grammar.wrong k v r n) (grammar.wrong m w r' n') =
     let same : Some v ≡ Some w = same_fault ts k m (Some v) (Some w) r r' in
     cc
 
-unit_faultless : (ts : List Spelled) (i : ℕ) (f : Fault) → IsShownUnit ts → IsShownFault ts i f → ⊥
-unit_faultless ts i f u (too_deep p k o r d n) = u.shallow k (deep_there ts p (length ts) k o None r u.unit d)
-unit_faultless ts i f u (wrong k v r n) =
-    let same : None ≡ Some v = same_fault ts (length ts) k None (Some v) u.unit r in
+shallow_at : (ps : List Piece) (i : ℕ) → All (λ p. p.uses ≤ MOST_USES) ps → MOST_USES < uses_at (slice_get ps i) → ⊥
+shallow_at [] i h l = no_less MOST_USES l
+  where
+    no_less : (n : ℕ) → n < 0 → ⊥
+    no_less n l = omega (arith, l)
+shallow_at (p ∷ ps) zero h l = let a = h 0 p (search arith) in omega (arith, a, l)
+shallow_at (p ∷ ps) (suc i) h l = shallow_at ps i (λ k d m. h (suc k) d (omega (arith, m))) l
+
+-- no token of a unit lies too deep
+unit_shallow : (ts : List Spelled) (u : TranslationUnit) (i : ℕ) → IsUnit ts u → IsTooDeep ts (length ts) i → ⊥
+unit_shallow ts u i h d =
+    let begins : Begins (take (length ts) ts) u = record { rest = []; unit = subst (λ us. IsDeepUnit us u) (sym (append-nil (take (length ts) ts) ∙ take-length ts)) h.unit } in
+    shallow_at (unit_pieces u) i h.shallow (d.deep u begins)
+
+unit_faultless : (ts : List Spelled) (i : ℕ) (f : Fault) → IsFaultless ts → grammar.IsFault ts i f → ⊥
+unit_faultless ts i f u (grammar.too_deep p k o r d n) = unit_shallow ts u.unit k u.has (deep_there ts p (length ts) k o None r u.reach d)
+unit_faultless ts i f u (grammar.wrong k v r n) =
+    let same : None ≡ Some v = same_fault ts (length ts) k None (Some v) u.reach r in
     cc
 
 grammar_fault_alone : (text : List ℕ) (ts : List Token) (r s : Refusal) → IsGrammarFault text ts r → IsGrammarFault text ts s → r ≡ s
 grammar_fault_alone text ts r s a b =
-    let token = token_alone (spelled text ts) a.token b.token a.fault b.fault a.found b.found in
-    let fault = fault_alone (spelled text ts) a.token b.token a.fault b.fault a.found b.found in
+    let token = token_alone (spelled text ts) a.first.token b.first.token a.fault b.fault a.first.found b.first.found in
+    let fault = fault_alone (spelled text ts) a.first.token b.first.token a.fault b.fault a.first.found b.first.found in
     refusal_is r s
-    (a.place ∙ ap (λ i. place_of (length text) (slice_get (spelled text ts) i)) token ∙ sym b.place)
+    (a.first.place ∙ ap (λ i. place_of (length text) (slice_get (spelled text ts) i)) token ∙ sym b.first.place)
     (a.rule ∙ ap rule_of fault ∙ sym b.rule)
 
 accepted_faultless : (text : List ℕ) (ts : List Token) (r : Refusal) → IsAccepted text ts → IsGrammarFault text ts r → ⊥
-accepted_faultless text ts r a b = unit_faultless (spelled text ts) b.token b.fault a.unit b.found
+accepted_faultless text ts r a b = unit_faultless (spelled text ts) b.first.token b.fault a.unit b.first.found
 
 -- What holds of the tokens of a text, and of the programs of the language that runs.
 pub record Alone : Type 0 where

@@ -31,7 +31,7 @@ pub faulty_for : (text : List ℕ) (ts : List Token) (r : Refusal) (w : FaultyTo
     → IsFound (spelled text ts) (found_of o) → r.at ≡ place_of (length text) (slice_get (spelled text ts) w.token) → r.rule ≡ rule_of (fault_of w.fault)
     → IsFirstRefusal text r
 faulty_for text ts r w o t e f place rule =
-    in_grammar ts t (record { token = w.token; fault = fault_of w.fault; found = subst (λ x. IsFound (spelled text ts) (found_of x)) e f; place = place; rule = rule })
+    in_grammar ts t (record { fault = fault_of w.fault; first = record { token = w.token; found = subst (λ x. IsFound (spelled text ts) (found_of x)) e f; place = place }; rule = rule })
 
 -- That a text has one answer.
 pub record OneAnswer (text : List ℕ) : Type 0 where

@@ -1,13 +1,13 @@
 -- Which program a text is the source of, and what every other text is refused with.
-use Rattle.std.specs.Prelude.{ℕ, ◌≡◌, List, length, slice_get}
-use Rattle.porch_tree.specs.Grammar.{Fault, syntax_fault, nesting, outside, place_of}
+use Rattle.std.specs.Prelude.{ℕ, ◌≡◌, List, length}
+use Rattle.porch_tree.specs.Grammar.{Fault, syntax_fault, nesting, outside, IsFirstFault}
 use Rattle.porch_lex.specs.declared.refusal.Rule.{Rule}
 use Rattle.porch_lex.specs.declared.refusal.Rule.TheVariants as rule
 use Rattle.porch_lex.specs.declared.refusal.Refusal.{Refusal}
 use Rattle.porch_lex.specs.declared.token.Token.{Token}
 use Rattle.porch_lex.specs.Tokens.{IsTokens, IsFirstLexFault}
 use Rattle.porch_lex.specs.Words.{spelled}
-use Rattle.porch_depth.specs.Told.{IsShownUnit, IsShownFault}
+use Rattle.porch_depth.specs.Told.{IsFaultless}
 use Rattle.porch_syntax.specs.Tree.{Program}
 use Rattle.porch_syntax.specs.Language.{IsSource}
 use Rattle.porch_source.specs.declared.fault.SourceFault.{SourceFault}
@@ -18,7 +18,7 @@ use Rattle.porch_source.specs.Comments.{without_comments}
 -- lies too deep.
 pub record IsAccepted (text : List ℕ) (ts : List Token) : Type 0 where
   pub tokens : IsTokens text ts
-  pub unit : IsShownUnit (spelled text ts)
+  pub unit : IsFaultless (spelled text ts)
 
 -- The text is the source of this program: it is accepted, and without its comments and includes it is the
 -- program in the part of the language that runs.
@@ -39,14 +39,10 @@ rule_of syntax_fault = rule.Syntax
 rule_of nesting = rule.Nesting
 rule_of outside = rule.Outside
 
--- The first fault of the grammar in a text with these tokens: the first token that lies too deep before the
--- place where something else is wrong, or else what is wrong there. Its place is the first byte of its token,
--- or the end of the text.
+-- The first fault of the grammar in a text with these tokens.
 pub record IsGrammarFault (text : List ℕ) (ts : List Token) (r : Refusal) : Type 0 where
-  pub token : ℕ
   pub fault : Fault
-  pub found : IsShownFault (spelled text ts) token fault
-  pub place : r.at ≡ place_of (length text) (slice_get (spelled text ts) token)
+  pub first : IsFirstFault (spelled text ts) (length text) r.at fault
   pub rule : r.rule ≡ rule_of fault
 
 -- The first rule that a text breaks: its size comes before its tokens, and all of these before its grammar.

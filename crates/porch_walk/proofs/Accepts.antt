@@ -63,7 +63,7 @@ pub follows_no_text : (ps : List Piece) → Heads follows ps → Heads not_text 
 follows_no_text [] h = absurd h
 follows_no_text (p ∷ ps) h = decided_not (not_text p.word) (λ e. never (sym h ∙ ap follows (text_word p.word e)))
 
-abbrev brackets_in : Declarator → Brackets
+abbrev pub brackets_in : Declarator → Brackets
 brackets_in (declarator k stars core bs) = bs
 
 starts_close_mark : (m : Mark) → starts_mark m ≡ true → word.Mark m ≡ word.Mark mark.CloseParenthesis → ⊥
@@ -72,7 +72,7 @@ starts_close_mark mark.OpenParenthesis h e = cc
 starts_close_mark mark.OpenBracket h e = cc
 starts_close_mark m h e = never (sym h)
 
-starts_close : (w : Word) → starts w ≡ true → w ≡ word.Mark mark.CloseParenthesis → ⊥
+pub starts_close : (w : Word) → starts w ≡ true → w ≡ word.Mark mark.CloseParenthesis → ⊥
 starts_close word.Name h e = cc
 starts_close (word.Mark m) h e = starts_close_mark m h e
 starts_close w h e = never (sym h)
@@ -143,12 +143,12 @@ module _ (types : List (List ℕ)) (i : Bool) where
 
   -- what stands in parentheses
 
-  open_nested : (b : Bool) (m : Mode) (f : List ℕ) (ss : List Symbol) (p : Piece) (go : Stage → Option Stage) → (b ≡ true → open_type types f i m ss (heard p.word p.bytes) ≡ None)
+  pub open_nested : (b : Bool) (m : Mode) (f : List ℕ) (ss : List Symbol) (p : Piece) (go : Stage → Option Stage) → (b ≡ true → open_type types f i m ss (heard p.word p.bytes) ≡ None)
       → run_from (open_on types f i b m ss (heard p.word p.bytes)) go ≡ run_from (nested_stage types f i m ss p.word) go
   open_nested true m f ss p go h = passes _ _ go (h refl)
   open_nested false m f ss p go h = refl
 
-  plain_when : (b : Bool) (e : Expr) → IsNoType types b e → b ≡ true → IsPlain types (first_name e)
+  pub plain_when : (b : Bool) (e : Expr) → IsNoType types b e → b ≡ true → IsPlain types (first_name e)
   plain_when true e h k = h
   plain_when false e h k = absurd (never (sym k))
 
@@ -170,7 +170,7 @@ module _ (types : List (List ℕ)) (i : Bool) where
     pub begins : begins_base p.word ≡ true
     pub known : p.word ≡ word.Name → names_type types p.bytes ≡ true
 
-  kind_start : (k : Keyword) (go : Kinds → Bool) → fits_from (kinds_behind no_kinds k) go ≡ true → base_word k ≡ true
+  pub kind_start : (k : Keyword) (go : Kinds → Bool) → fits_from (kinds_behind no_kinds k) go ≡ true → base_word k ≡ true
   kind_start key.Const go h = refl
   kind_start key.Char go h = refl
   kind_start key.Short go h = refl
@@ -224,7 +224,7 @@ module _ (types : List (List ℕ)) (i : Bool) where
       base_of_there f ss p.word (names_type types (name_bytes p.word p.bytes)) k.begins
       (λ n. ap (names_type types) (bytes_at types i p.word p.bytes n) ∙ k.known n) e
 
-  open_some : (b : Bool) (m : Mode) (f : List ℕ) (ss : List Symbol) (p : Piece) (go : Stage → Option Stage) → b ≡ true → (open_type types f i m ss (heard p.word p.bytes) ≡ None → ⊥)
+  pub open_some : (b : Bool) (m : Mode) (f : List ℕ) (ss : List Symbol) (p : Piece) (go : Stage → Option Stage) → b ≡ true → (open_type types f i m ss (heard p.word p.bytes) ≡ None → ⊥)
       → run_from (open_on types f i b m ss (heard p.word p.bytes)) go ≡ run_from (open_type types f i m ss (heard p.word p.bytes)) go
   open_some true m f ss p go k h = some_first _ _ go h
   open_some false m f ss p go k h = absurd (never (sym k))
@@ -327,14 +327,14 @@ module _ (types : List (List ℕ)) (i : Bool) where
   leaves_no_const [] h = absurd h
   leaves_no_const (p ∷ ps) h = leaves_word p.word h
 
-  brackets_no_const : (bs : Brackets) (a : Option ℕ) (d : ℕ) (ps : List Piece) → Heads leaves ps → Heads no_const (brackets_pieces i bs a d ps)
+  pub brackets_no_const : (bs : Brackets) (a : Option ℕ) (d : ℕ) (ps : List Piece) → Heads leaves ps → Heads no_const (brackets_pieces i bs a d ps)
   brackets_no_const no_brackets a d ps h = leaves_no_const ps h
   brackets_no_const (with_bracket (count e) bs) a d ps h = refl
   brackets_no_const (with_bracket empty_list bs) a d ps h = refl
   brackets_no_const (with_bracket void_list bs) a d ps h = refl
   brackets_no_const (with_bracket (param_list xs) bs) a d ps h = refl
 
-  core_no_const : (c : Core) (bs : Brackets) (a : Option ℕ) (d : ℕ) (ps : List Piece) → Heads leaves ps → Heads no_const (core_pieces i c d (brackets_pieces i bs a d ps))
+  pub core_no_const : (c : Core) (bs : Brackets) (a : Option ℕ) (d : ℕ) (ps : List Piece) → Heads leaves ps → Heads no_const (core_pieces i c d (brackets_pieces i bs a d ps))
   core_no_const lacking_core bs a d ps h = brackets_no_const bs a d ps h
   core_no_const (named_core n) bs a d ps h = refl
   core_no_const (inner k x) bs a d ps h = refl
@@ -384,7 +384,7 @@ module _ (types : List (List ℕ)) (i : Bool) where
   no_operand_mark f ss mark.Colon h = refl
   no_operand_mark f ss m h = absurd (never (sym h))
 
-  no_operand : (f : List ℕ) (ss : List Symbol) (w : Word) → closes w ≡ true → operand types f i mode.Assign ss w ≡ None
+  pub no_operand : (f : List ℕ) (ss : List Symbol) (w : Word) → closes w ≡ true → operand types f i mode.Assign ss w ≡ None
   no_operand f ss (word.Mark m) h = no_operand_mark f ss m h
   no_operand f ss w h = absurd (never (sym h))
 
@@ -404,7 +404,7 @@ module _ (types : List (List ℕ)) (i : Bool) where
       expr_first types i (λ q. on f (Count ∷ ss) q ≡ on f (Operand mode.Cond ∷ Must (word.Mark mark.CloseBracket) ∷ ss) q) e
       (λ p qs k. skips _ _ (λ n. over n qs) (differs begins p.word (word.Mark mark.CloseBracket) k.begins refl)) d ps
 
-  condition_cond : (e : Expr) → IsCondition e → IsCond e
+  pub condition_cond : (e : Expr) → IsCondition e → IsCond e
   condition_cond (assign a x e) h = absurd h
   condition_cond (sequence e es) h = absurd h
   condition_cond (name n) h = tt
@@ -422,7 +422,7 @@ module _ (types : List (List ℕ)) (i : Bool) where
   tighter_whole false l (name n) h = tt
   tighter_whole false l e h = tt
 
-  tighter_condition : (l : Level) (e : Expr) → IsTighter l e → IsCondition e
+  pub tighter_condition : (l : Level) (e : Expr) → IsTighter l e → IsCondition e
   tighter_condition l (conditional e a b) h = absurd h
   tighter_condition l (assign a x e) h = absurd h
   tighter_condition l (sequence e es) h = absurd h
@@ -438,7 +438,7 @@ module _ (types : List (List ℕ)) (i : Bool) where
   condition_whole false (name n) h = tt
   condition_whole false e h = tt
 
-  suffix_no_text : (xs : Suffixes) (d : ℕ) (ps : List Piece) → Heads not_text ps → Heads not_text (suffixes_pieces i xs d ps)
+  pub suffix_no_text : (xs : Suffixes) (d : ℕ) (ps : List Piece) → Heads not_text ps → Heads not_text (suffixes_pieces i xs d ps)
   suffix_no_text no_suffixes d ps h = h
   suffix_no_text (with_suffix (index e) xs) d ps h = refl
   suffix_no_text (with_suffix (call es) xs) d ps h = refl
@@ -447,11 +447,11 @@ module _ (types : List (List ℕ)) (i : Bool) where
   suffix_no_text (with_suffix increased xs) d ps h = refl
   suffix_no_text (with_suffix decreased xs) d ps h = refl
 
-  operands_parts : (os : Operands) (d : ℕ) (ps : List Piece) → Heads parts ps → Heads parts (operands_pieces i os d ps)
+  pub operands_parts : (os : Operands) (d : ℕ) (ps : List Piece) → Heads parts ps → Heads parts (operands_pieces i os d ps)
   operands_parts no_operands d ps h = h
   operands_parts (with_operand o e os) d ps h = infix_parts o
 
-  more_ends : (es : Exprs) (d : ℕ) (ps : List Piece) → Heads closes ps → Heads ends (more_pieces i es d ps)
+  pub more_ends : (es : Exprs) (d : ℕ) (ps : List Piece) → Heads closes ps → Heads ends (more_pieces i es d ps)
   more_ends no_exprs d ps h = closes_are_ends ps h
   more_ends (with_expr e es) d ps h = refl
 
@@ -479,7 +479,7 @@ module _ (types : List (List ℕ)) (i : Bool) where
   declarators_leave no_declarators d ps h = h
   declarators_leave (with_declarator x xs) d ps h = refl
 
-  params_leave : (xs : Params) (d : ℕ) (ps : List Piece) → Heads leaves (more_params_pieces i xs d (mark_piece i mark.CloseParenthesis d ∷ ps))
+  pub params_leave : (xs : Params) (d : ℕ) (ps : List Piece) → Heads leaves (more_params_pieces i xs d (mark_piece i mark.CloseParenthesis d ∷ ps))
   params_leave no_params d ps = refl
   params_leave (with_param (param b x) xs) d ps = refl
 
@@ -504,7 +504,7 @@ module _ (types : List (List ℕ)) (i : Bool) where
   must_tokens (declarator k [] (inner j x) bs) g = tt
   must_tokens (declarator k (n ∷ ns) core bs) g = tt
 
-  constants_end : (cs : Constants) (d : ℕ) (ps : List Piece) → Heads ends (more_constants_pieces i cs d (mark_piece i mark.CloseBrace d ∷ ps))
+  pub constants_end : (cs : Constants) (d : ℕ) (ps : List Piece) → Heads ends (more_constants_pieces i cs d (mark_piece i mark.CloseBrace d ∷ ps))
   constants_end no_constants d ps = refl
   constants_end (with_constant (constant n e) cs) d ps = refl
 
@@ -519,11 +519,11 @@ module _ (types : List (List ℕ)) (i : Bool) where
       base_first (λ q. on f (Fields_to_come ∷ ss) q ≡ on f (Base_to_come ∷ Declarator_to_come naming.Must ∷ MoreDeclarators ∷ Fields_to_come ∷ ss) q)
       (λ p qs k. skips _ _ (λ n. over n qs) (differs begins_base p.word (word.Mark mark.CloseBrace) k.begins refl)) b g r d ps
 
-  abbrev Params_first : Base → Type 0
+  abbrev pub Params_first : Base → Type 0
   Params_first (void k c) = c.before ≡ zero → ⊥
   Params_first b = Unit {0}
 
-  no_void : (p : Piece) → begins_base p.word ≡ true → (p.word ≡ word.Key key.Void → ⊥) → (f : List ℕ) (ss : List Symbol) (ps : List Piece)
+  pub no_void : (p : Piece) → begins_base p.word ≡ true → (p.word ≡ word.Key key.Void → ⊥) → (f : List ℕ) (ss : List Symbol) (ps : List Piece)
       → on f (Parameters ∷ ss) (p ∷ ps) ≡ on f (Base_to_come ∷ Declarator_to_come naming.May ∷ MoreParameters ∷ ss) (p ∷ ps)
   no_void p h n f ss ps =
       skips _ _ (λ s. over s ps) (differs begins_base p.word (word.Mark mark.CloseParenthesis) h refl)
@@ -539,7 +539,7 @@ module _ (types : List (List ℕ)) (i : Bool) where
   parameters_word zero a p f ss d ps h k = no_void p h k f ss ps
   parameters_word (suc n) a p f ss d ps h k = refl
 
-  kind_no_void : (k : Keyword) (go : Kinds → Bool) → fits_from (kinds_behind no_kinds k) go ≡ true → ◌≡◌ {A = Word} (word.Key k) (word.Key key.Void) → ⊥
+  pub kind_no_void : (k : Keyword) (go : Kinds → Bool) → fits_from (kinds_behind no_kinds k) go ≡ true → ◌≡◌ {A = Word} (word.Key k) (word.Key key.Void) → ⊥
   kind_no_void key.Const go h e = cc
   kind_no_void key.Char go h e = cc
   kind_no_void key.Short go h e = cc
@@ -604,7 +604,7 @@ module _ (types : List (List ℕ)) (i : Bool) where
   start_mark mark.OpenBracket h f ss bs = refl
   start_mark m h f ss bs = absurd (never (sym h))
 
-  start_word : (w : Word) → starts w ≡ true → (f : List ℕ) (ss : List Symbol) (bs : List ℕ)
+  pub start_word : (w : Word) → starts w ≡ true → (f : List ℕ) (ss : List Symbol) (bs : List ℕ)
       → behind types f i (Nameless ∷ ss) (heard w bs) ≡ behind types f i (Declarator_to_come naming.May ∷ Must (word.Mark mark.CloseParenthesis) ∷ Brackets_to_come ∷ ss) (heard w bs)
   start_word word.Name h f ss bs = refl
   start_word (word.Mark m) h f ss bs = start_mark m h f ss bs
@@ -625,7 +625,7 @@ module _ (types : List (List ℕ)) (i : Bool) where
       (λ p qs k. skips _ _ (λ s. over s qs) (decided (is p.word (word.Mark mark.CloseParenthesis)) (λ e. starts_close p.word k (same p.word _ e)))
       ∙ skips _ _ (λ s. over s qs) (differs starts p.word (word.Key key.Const) k refl)) d ps h
 
-  void_choice : (k d : ℕ) (x : Declarator) (xs : Params) (f : List ℕ) (ss : List Symbol) (ps : List Piece) → IsNotVoid (with_param (param (void k (record { before = 0; behind = 0 })) x) xs)
+  pub void_choice : (k d : ℕ) (x : Declarator) (xs : Params) (f : List ℕ) (ss : List Symbol) (ps : List Piece) → IsNotVoid (with_param (param (void k (record { before = 0; behind = 0 })) x) xs)
       → HasTokens x ⊎ (on f (Void ∷ ss) (more_params_pieces i xs d (mark_piece i mark.CloseParenthesis d ∷ ps)) ≡ on f (Declarator_to_come naming.May ∷ MoreParameters ∷ ss) (more_params_pieces i xs d (mark_piece i mark.CloseParenthesis d ∷ ps)))
   void_choice k d (declarator j [] lacking_core no_brackets) no_params f ss ps h = absurd (h refl)
   void_choice k d (declarator j [] lacking_core no_brackets) (with_param (param b y) ys) f ss ps h = inr refl
@@ -639,7 +639,7 @@ module _ (types : List (List ℕ)) (i : Bool) where
   void_run k zero (suc m) d x xs f ss ps n h e = consts_run m f (Declarator_to_come naming.May ∷ MoreParameters ∷ ss) d _ h ∙ e
   void_run k (suc m) b d x xs f ss ps n h e = before_run m None f (Declarator_to_come naming.May ∷ MoreParameters ∷ ss) d _ ∙ consts_run b f (Declarator_to_come naming.May ∷ MoreParameters ∷ ss) d _ h ∙ e
 
-  param_tokens : (x : Declarator) (xs : Params) (d : ℕ) (ps : List Piece) → HasTokens x ⊎ Heads behind_base (more_params_pieces i xs d (mark_piece i mark.CloseParenthesis d ∷ ps))
+  pub param_tokens : (x : Declarator) (xs : Params) (d : ℕ) (ps : List Piece) → HasTokens x ⊎ Heads behind_base (more_params_pieces i xs d (mark_piece i mark.CloseParenthesis d ∷ ps))
   param_tokens x no_params d ps = inr refl
   param_tokens x (with_param (param b y) ys) d ps = inr refl
 
@@ -683,7 +683,7 @@ module _ (types : List (List ℕ)) (i : Bool) where
   lacking_run naming.Typedef k stars bs g q f ss d ps h = absurd g.2
 
   -- what a good declarator says of its brackets
-  named_brackets : (n : Naming) (x : Declarator) → IsNamed n x → AreBrackets (brackets_in x)
+  pub named_brackets : (n : Naming) (x : Declarator) → IsNamed n x → AreBrackets (brackets_in x)
   named_brackets naming.Must (declarator k stars core bs) g = g.3
   named_brackets naming.Typedef (declarator k stars core bs) g = g.3
   named_brackets naming.May (declarator k stars core bs) g = g.3
@@ -695,7 +695,7 @@ module _ (types : List (List ℕ)) (i : Bool) where
   Bare naming.May bs = IsListFirst lacking_core bs × AreBrackets bs
   Bare naming.Abstract bs = AreCounts bs × AreBrackets bs
 
-  named_bare : (n : Naming) (k : ℕ) (stars : List ℕ) (bs : Brackets) → IsNamed n (declarator k stars lacking_core bs) → Bare n bs
+  pub named_bare : (n : Naming) (k : ℕ) (stars : List ℕ) (bs : Brackets) → IsNamed n (declarator k stars lacking_core bs) → Bare n bs
   named_bare naming.Must k stars bs g = g.2
   named_bare naming.Typedef k stars bs g = g.2
   named_bare naming.May k stars bs g = (g.1, g.3)

@@ -29,6 +29,7 @@ completion false [] = []
 completion true [] = by true (word.Mark mark.CloseBrace) ∷ []
 completion i (Must w ∷ ss) = by i w ∷ completion i ss
 completion i (Operand m ∷ ss) = by i word.Whole ∷ completion i ss
+completion i (Open mode.Size ∷ ss) = by i (word.Key key.Int) ∷ by i (word.Mark mark.CloseParenthesis) ∷ completion i ss
 completion i (Open m ∷ ss) = by i word.Whole ∷ by i (word.Mark mark.CloseParenthesis) ∷ completion i ss
 completion i (Texts ∷ ss) = completion i ss
 completion i (Suffixes ∷ ss) = completion i ss
@@ -136,7 +137,7 @@ Good i (MoreInitials ∷ ss) = Good i ss
 Good i (NextInitial ∷ ss) = Good i ss
 Good i (EndTypedef ∷ ss) = Good i ss
 
-brace_is : (w : Word) → brace w ≡ true → w ≡ word.Mark mark.CloseBrace
+pub brace_is : (w : Word) → brace w ≡ true → w ≡ word.Mark mark.CloseBrace
 brace_is w h = same w (word.Mark mark.CloseBrace) h
 
 pub brace_no_else : (ps : List Piece) → Heads brace ps → Heads no_else ps
@@ -147,11 +148,11 @@ pub brace_closes : (ps : List Piece) → Heads brace ps → Heads closes ps
 brace_closes [] h = absurd h
 brace_closes (p ∷ ps) h = ap closes (brace_is p.word h)
 
-flipped : (b : Bool) → (if b then false else true) ≡ true → b ≡ false
+pub flipped : (b : Bool) → (if b then false else true) ≡ true → b ≡ false
 flipped true h = sym h
 flipped false h = refl
 
-not_name_closes : (ps : List Piece) → Heads closes ps → Heads not_text ps
+pub not_name_closes : (ps : List Piece) → Heads closes ps → Heads not_text ps
 not_name_closes ps h = follows_no_text ps (parts_are_follows ps (ends_are_parts ps (closes_are_ends ps h)))
 
 module _ (types : List (List ℕ)) (i : Bool) where
@@ -216,6 +217,12 @@ module _ (types : List (List ℕ)) (i : Bool) where
 on_to : (types : List (List ℕ)) (i : Bool) (f : List ℕ) (ss rs : List Symbol) (ps qs : List Piece) → on types i f ss ps ≡ on types i f rs qs → Complete (at types i f rs) qs → Complete (at types i f ss) ps
 on_to types i f ss rs ps qs e c = complete (at types i f ss) (at types i f rs) ps qs e c
 
+on_open : (types : List (List ℕ)) (i : Bool) (m : Mode) (f : List ℕ) (ss : List Symbol) → Heads closes (completion i ss) → Complete (at types i f ss) (completion i ss)
+    → Complete (at types i f (Open m ∷ ss)) (by i word.Whole ∷ by i (word.Mark mark.CloseParenthesis) ∷ completion i ss)
+on_open types i m f ss h =
+    on_to types i f (Open m ∷ ss) ss (by i word.Whole ∷ by i (word.Mark mark.CloseParenthesis) ∷ completion i ss) (completion i ss)
+    (ap (λ o. run_from o (λ n. over n (by i (word.Mark mark.CloseParenthesis) ∷ completion i ss))) (open_whole types i (takes_type m) m f ss) ∙ after_operand types i m f ss (completion i ss) h)
+
 pub last_good : (i : Bool) (ss : List Symbol) → IsLast ss → Good i ss
 last_good i [] h = tt
 last_good i (s ∷ ss) h = absurd h
@@ -232,9 +239,11 @@ completes [] types f false g = record { last = at types false f []; run = refl; 
 completes [] types f true g = record { last = at types false f []; run = refl; ended = refl }
 completes (Must w ∷ ss) types f i g = on_to types i f (Must w ∷ ss) ss (completion i (Must w ∷ ss)) (completion i ss) (must_run types i w f ss (completion i ss)) (completes ss types f i g.1)
 completes (Operand m ∷ ss) types f i g = on_to types i f (Operand m ∷ ss) ss (completion i (Operand m ∷ ss)) (completion i ss) (after_operand types i m f ss (completion i ss) g.0) (completes ss types f i g.1)
-completes (Open m ∷ ss) types f i g =
-    on_to types i f (Open m ∷ ss) ss (completion i (Open m ∷ ss)) (completion i ss)
-    (ap (λ o. run_from o (λ n. over n (by i (word.Mark mark.CloseParenthesis) ∷ completion i ss))) (open_whole types i (takes_type m) m f ss) ∙ after_operand types i m f ss (completion i ss) g.0) (completes ss types f i g.1)
+completes (Open mode.Size ∷ ss) types f i g = on_to types i f (Open mode.Size ∷ ss) ss (completion i (Open mode.Size ∷ ss)) (completion i ss) refl (completes ss types f i g.1)
+completes (Open mode.Assign ∷ ss) types f i g = on_open types i mode.Assign f ss g.0 (completes ss types f i g.1)
+completes (Open mode.Cond ∷ ss) types f i g = on_open types i mode.Cond f ss g.0 (completes ss types f i g.1)
+completes (Open mode.Cast ∷ ss) types f i g = on_open types i mode.Cast f ss g.0 (completes ss types f i g.1)
+completes (Open mode.Unary ∷ ss) types f i g = on_open types i mode.Unary f ss g.0 (completes ss types f i g.1)
 completes (Texts ∷ ss) types f i g = on_to types i f (Texts ∷ ss) ss (completion i (Texts ∷ ss)) (completion i ss) (pass_texts types i f ss (completion i ss) (not_name_closes (completion i ss) g.0)) (completes ss types f i g.1)
 completes (Suffixes ∷ ss) types f i g = on_to types i f (Suffixes ∷ ss) ss (completion i (Suffixes ∷ ss)) (completion i ss) (pass_suffix types i f ss (completion i ss) g.0) (completes ss types f i g.1)
 completes (Commas ∷ ss) types f i g = on_to types i f (Commas ∷ ss) ss (completion i (Commas ∷ ss)) (completion i ss) (pass_commas types i f ss (completion i ss) g.0) (completes ss types f i g.1)

@@ -35,7 +35,7 @@ no_stage s h = cc
 pub same_stage : (s n : Stage) → Some s ≡ Some n → s ≡ n
 same_stage s n h = cc
 
-heard_same : (w : Word) (a b : List ℕ) → HasBytes w a b → name_bytes w a ≡ name_bytes w b
+pub heard_same : (w : Word) (a b : List ℕ) → HasBytes w a b → name_bytes w a ≡ name_bytes w b
 heard_same word.Name a b h = h
 heard_same w a b h = refl
 
@@ -134,10 +134,10 @@ run_on [] us s = refl
 run_on (t ∷ ts) us s = on_from (step s t.word t.bytes) ts us (run_on ts us)
 
 -- the tokens of a completion
-abbrev spelled_of : Piece → Spelled
+abbrev pub spelled_of : Piece → Spelled
 spelled_of p = record { word = p.word; at = 0; bytes = p.bytes }
 
-abbrev tokens_of : List Piece → List Spelled
+abbrev pub tokens_of : List Piece → List Spelled
 tokens_of [] = []
 tokens_of (p ∷ ps) = spelled_of p ∷ tokens_of ps
 
@@ -145,7 +145,7 @@ tokens_run : (ps : List Piece) (s : Stage) → run s (tokens_of ps) ≡ over s p
 tokens_run [] s = refl
 tokens_run (p ∷ ps) s = from_same (step s p.word p.bytes) (step s p.word p.bytes) (λ n. run n (tokens_of ps)) (λ n. over n ps) refl (tokens_run ps)
 
-abbrev ending : Stage → List Spelled
+abbrev pub ending : Stage → List Spelled
 ending n = tokens_of (completion n.inside n.pending)
 
 completed : (ts : List Spelled) (n : Stage) → run start ts ≡ Some n → Accepted (ts ++ ending n)
@@ -167,7 +167,11 @@ all_safe [] true g = (refl, tt)
 all_safe [] false g = tt
 all_safe (Must w ∷ ss) i g = (g.0, all_safe ss i g.1)
 all_safe (Operand m ∷ ss) i g = (refl, all_safe ss i g.1)
-all_safe (Open m ∷ ss) i g = (refl, (refl, all_safe ss i g.1))
+all_safe (Open mode.Assign ∷ ss) i g = (refl, (refl, all_safe ss i g.1))
+all_safe (Open mode.Cond ∷ ss) i g = (refl, (refl, all_safe ss i g.1))
+all_safe (Open mode.Cast ∷ ss) i g = (refl, (refl, all_safe ss i g.1))
+all_safe (Open mode.Unary ∷ ss) i g = (refl, (refl, all_safe ss i g.1))
+all_safe (Open mode.Size ∷ ss) i g = (refl, (refl, all_safe ss i g.1))
 all_safe (Texts ∷ ss) i g = all_safe ss i g.1
 all_safe (Suffixes ∷ ss) i g = all_safe ss i g.1
 all_safe (Behind u ∷ ss) i g = all_safe ss i g.1
@@ -472,7 +476,7 @@ clean [] rest s n g e c = subst (λ m. Clean s (ending m)) (same_stage s n e) (s
 clean (t ∷ ts) rest s n g e c =
     (one_clean t.word s t.bytes ts rest n g e c.0, clean_from (step s t.word t.bytes) ts rest n e (kept s.pending s.types s.fresh s.inside (heard t.word t.bytes) g) (λ m. clean ts rest m n) c.1)
 
-read_beginning : (ts rest : List Spelled) (n : Stage) → run start ts ≡ Some n → PreClean start ts rest → Read (ts ++ ending n)
+pub read_beginning : (ts rest : List Spelled) (n : Stage) → run start ts ≡ Some n → PreClean start ts rest → Read (ts ++ ending n)
 read_beginning ts rest n e c =
     let a = completed ts n e in
     unit_read (ts ++ ending n) (a.last) (a.run) (a.ended) (clean ts rest start n tt e c)

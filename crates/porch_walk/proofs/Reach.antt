@@ -160,7 +160,7 @@ clean_all_on : (o : Option Stage) (ts : List Spelled) → ((m : Stage) → Clean
 clean_all_on None ts f c = tt
 clean_all_on (Some m) ts f c = f m c
 
-clean_all : (ts : List Spelled) (s : Stage) → Clean s ts → PreClean s (take (length ts) ts) (drop (length ts) ts)
+pub clean_all : (ts : List Spelled) (s : Stage) → Clean s ts → PreClean s (take (length ts) ts) (drop (length ts) ts)
 clean_all [] s c = tt
 clean_all (t ∷ ts) s c = (all_words s.inside t ts (length ts) ∙ c.0, clean_all_on (step s t.word t.bytes) ts (λ m. clean_all ts m) c.1)
 

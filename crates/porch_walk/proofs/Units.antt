@@ -20,7 +20,7 @@ use Rattle.porch_walk.proofs.Passes.{over, Heads, closes, ends, leaves, behind_b
 use Rattle.porch_walk.proofs.Accepts.{on, StartOf, expr_runs, base_run, declarator_run, optional_first, base_first, assigned, conditioned, declared_behind, must_tokens, some_first, base_there, declarator_first, pass_optional}
 
 -- where a statement begins
-abbrev begins_stmt_key : Keyword → Bool
+abbrev pub begins_stmt_key : Keyword → Bool
 begins_stmt_key key.If = true
 begins_stmt_key key.While = true
 begins_stmt_key key.Do = true
@@ -32,7 +32,7 @@ begins_stmt_key key.Return = true
 begins_stmt_key key.Sizeof = true
 begins_stmt_key k = false
 
-abbrev begins_stmt_mark : Mark → Bool
+abbrev pub begins_stmt_mark : Mark → Bool
 begins_stmt_mark mark.OpenBrace = true
 begins_stmt_mark mark.Semicolon = true
 begins_stmt_mark mark.OpenParenthesis = true
@@ -46,7 +46,7 @@ begins_stmt_mark mark.Tilde = true
 begins_stmt_mark mark.Not = true
 begins_stmt_mark m = false
 
-abbrev begins_stmt : Word → Bool
+abbrev pub begins_stmt : Word → Bool
 begins_stmt word.Name = true
 begins_stmt word.Whole = true
 begins_stmt word.Character = true
@@ -78,16 +78,16 @@ also_stmt word.Text h = refl
 also_stmt (word.Key k) h = also_stmt_key k h
 also_stmt (word.Mark m) h = also_stmt_mark m h
 
-abbrev first_of : Stmt → Option (List ℕ)
+abbrev pub first_of : Stmt → Option (List ℕ)
 first_of (evaluate (present e)) = first_name e
 first_of s = None
 
 -- the first piece of a statement
-record StmtFirst (o : Option (List ℕ)) (p : Piece) : Type 0 where
-  begins : begins_stmt p.word ≡ true
-  plain : p.word ≡ word.Name → o ≡ Some p.bytes
+pub record StmtFirst (o : Option (List ℕ)) (p : Piece) : Type 0 where
+  pub begins : begins_stmt p.word ≡ true
+  pub plain : p.word ≡ word.Name → o ≡ Some p.bytes
 
-stmt_first : (types : List (List ℕ)) (P : List Piece → Type 0) (s : Stmt) → ((p : Piece) (ps : List Piece) → StmtFirst (first_of s) p → P (p ∷ ps)) → (d : ℕ) (ps : List Piece) → P (stmt_pieces s d ps)
+pub stmt_first : (types : List (List ℕ)) (P : List Piece → Type 0) (s : Stmt) → ((p : Piece) (ps : List Piece) → StmtFirst (first_of s) p → P (p ∷ ps)) → (d : ℕ) (ps : List Piece) → P (stmt_pieces s d ps)
 stmt_first types P (evaluate (present e)) f d ps = expr_first types true P e (λ p qs k. f p qs (record { begins = also_stmt p.word k.begins; plain = k.plain })) (suc (suc d)) _
 stmt_first types P (evaluate absent) f d ps = f _ _ (record { begins = refl; plain = λ h. cc })
 stmt_first types P (block k ds ss) f d ps = f _ _ (record { begins = refl; plain = λ h. cc })
@@ -101,21 +101,21 @@ stmt_first types P (break k) f d ps = f _ _ (record { begins = refl; plain = λ 
 stmt_first types P (continue k) f d ps = f _ _ (record { begins = refl; plain = λ h. cc })
 stmt_first types P (give k e) f d ps = f _ _ (record { begins = refl; plain = λ h. cc })
 
-plain_first_of : (types : List (List ℕ)) (s : Stmt) (ss : Stmts) → BeginsPlain types (with_stmt s ss) → IsPlain types (first_of s)
+pub plain_first_of : (types : List (List ℕ)) (s : Stmt) (ss : Stmts) → BeginsPlain types (with_stmt s ss) → IsPlain types (first_of s)
 plain_first_of types (evaluate (present e)) ss h = h
 plain_first_of types (evaluate absent) ss h = tt
 plain_first_of types (block k ds xs) ss h = tt
 plain_first_of types s ss h = tt
 
 -- what is pending behind a statement: an Else for each choice without its other branch at the end
-abbrev elses : Stmt → List Symbol → List Symbol
+abbrev pub elses : Stmt → List Symbol → List Symbol
 elses (choose k e s) ss = elses s (Else ∷ ss)
 elses (choose_else k e s t) ss = elses t ss
 elses (while_loop k e s) ss = elses s ss
 elses (for_loop k a b c s) ss = elses s ss
 elses s ss = ss
 
-closed_elses : (s : Stmt) → IsClosed s → (ss : List Symbol) → elses s ss ≡ ss
+pub closed_elses : (s : Stmt) → IsClosed s → (ss : List Symbol) → elses s ss ≡ ss
 closed_elses (choose k e s) c ss = absurd c
 closed_elses (choose_else k e s t) c ss = closed_elses t c ss
 closed_elses (while_loop k e s) c ss = closed_elses s c ss
@@ -123,14 +123,14 @@ closed_elses (for_loop k a b d s) c ss = closed_elses s c ss
 closed_elses (block k ds xs) c ss = refl
 closed_elses s c ss = refl
 
-abbrev no_else : Word → Bool
+abbrev pub no_else : Word → Bool
 no_else w = if is_key key.Else w then false else true
 
-flipped : (b : Bool) → (if b then false else true) ≡ true → b ≡ false
+pub flipped : (b : Bool) → (if b then false else true) ≡ true → b ≡ false
 flipped true h = sym h
 flipped false h = refl
 
-if_none : (b : Bool) (x y : Option Stage) → b ≡ false → (if b then x else y) ≡ None → y ≡ None
+pub if_none : (b : Bool) (x y : Option Stage) → b ≡ false → (if b then x else y) ≡ None → y ≡ None
 if_none true x y h e = absurd (never h)
 if_none false x y h e = e
 
@@ -150,7 +150,7 @@ module _ (types : List (List ℕ)) where
     next_first (value e) f ss d ps = next_value e f ss (suc d) ps
     next_first (braced k xs c) f ss d ps = refl
 
-    initials_end : (xs : Initials) (c : Bool) (d : ℕ) (ps : List Piece) → Heads ends (more_initials_pieces i xs d (comma_pieces i c d (mark_piece i mark.CloseBrace d ∷ ps)))
+    pub initials_end : (xs : Initials) (c : Bool) (d : ℕ) (ps : List Piece) → Heads ends (more_initials_pieces i xs d (comma_pieces i c d (mark_piece i mark.CloseBrace d ∷ ps)))
     initials_end no_initials true d ps = refl
     initials_end no_initials false d ps = refl
     initials_end (with_initial x xs) c d ps = refl
@@ -168,7 +168,7 @@ module _ (types : List (List ℕ)) where
       initials_run no_initials false g r f ss d ps = refl
       initials_run (with_initial x xs) c g r f ss d ps = next_first x f ss d _ ∙ initial_run x g.0 r.0 f (MoreInitials ∷ ss) d _ (initials_end xs c d ps) ∙ initials_run xs c g.1 r.1 f ss d ps
 
-    entries_end : (es : List Entry) (d : ℕ) (ps : List Piece) → Heads ends (more_entries_pieces i es d (mark_piece i mark.Semicolon d ∷ ps))
+    pub entries_end : (es : List Entry) (d : ℕ) (ps : List Piece) → Heads ends (more_entries_pieces i es d (mark_piece i mark.Semicolon d ∷ ps))
     entries_end [] d ps = refl
     entries_end (e ∷ es) d ps = refl
 
@@ -219,7 +219,7 @@ module _ (types : List (List ℕ)) where
 
   -- declarations in a block
 
-  not_static : (p : Piece) → StartOf types true p → is_key key.Static p.word ≡ false
+  pub not_static : (p : Piece) → StartOf types true p → is_key key.Static p.word ≡ false
   not_static p k = differs begins_base p.word (word.Key key.Static) k.begins refl
 
   declared_first : (b : Base) → IsBase b → ReadsBase types b → (f : List ℕ) (ss : List Symbol) (d : ℕ) (ps : List Piece)
@@ -265,7 +265,7 @@ module _ (types : List (List ℕ)) where
   no_word_key f ss key.Sizeof h = refl
   no_word_key f ss k h = absurd (never (sym h))
 
-  no_word : (f : List ℕ) (ss : List Symbol) (w : Word) → begins w ≡ true → statement_word types f true ss w ≡ None
+  pub no_word : (f : List ℕ) (ss : List Symbol) (w : Word) → begins w ≡ true → statement_word types f true ss w ≡ None
   no_word f ss word.Name h = refl
   no_word f ss word.Whole h = refl
   no_word f ss word.Character h = refl
@@ -317,7 +317,7 @@ module _ (types : List (List ℕ)) where
   statement_key_there f ss key.Sizeof h e = cc
   statement_key_there f ss k h e = never (sym h)
 
-  statement_there : (f : List ℕ) (ss : List Symbol) (w : Word) → begins_stmt w ≡ true → statement types f true ss w ≡ None → ⊥
+  pub statement_there : (f : List ℕ) (ss : List Symbol) (w : Word) → begins_stmt w ≡ true → statement types f true ss w ≡ None → ⊥
   statement_there f ss word.Name h e = cc
   statement_there f ss word.Whole h e = cc
   statement_there f ss word.Character h e = cc
@@ -372,7 +372,7 @@ module _ (types : List (List ℕ)) where
   if_both true x y h e = absurd (never h)
   if_both false x y h e = e
 
-  no_declaration : (f : List ℕ) (ss : List Symbol) (o : Option (List ℕ)) (p : Piece) → StmtFirst o p → IsPlain types o → declaration_stage types f true (Body ∷ ss) (heard p.word p.bytes) ≡ None
+  pub no_declaration : (f : List ℕ) (ss : List Symbol) (o : Option (List ℕ)) (p : Piece) → StmtFirst o p → IsPlain types o → declaration_stage types f true (Body ∷ ss) (heard p.word p.bytes) ≡ None
   no_declaration f ss o p k h =
       if_both (is_key key.Static p.word) _ _ (differs begins_stmt p.word (word.Key key.Static) k.begins refl)
       (no_base_of f (Entries ∷ Body ∷ ss) p.word (names_type types (name_bytes p.word p.bytes)) k.begins

@@ -8,5 +8,11 @@ pub mod Worked
 pub mod Reach
 -- where the code stands in a walk, and a walk that its caller leads
 pub mod Walks
+-- what a part of the walk does with a word to the uses of the grammar that are counted
+pub mod Plans
+-- in how many of these uses each token is shown to lie
+pub mod Levels
+-- a unit that has just what is shown
+pub mod Had
 -- what single steps of the code do
 pub mod inside

@@ -1,5 +1,5 @@
 -- How far a text is read, by the answer of the walk.
-use Rattle.std.specs.Prelude.{List, length, Option, Some, None}
+use Rattle.std.specs.Prelude.{ℕ, List, length, Option, Some, None}
 use Rattle.porch_tree.specs.Pieces.{Spelled}
 use Rattle.porch_tree.specs.Grammar.{IsReach}
 use Rattle.porch_walk.specs.Walk.{Wrong}
@@ -9,3 +9,8 @@ use Rattle.porch_walk.specs.Walk.{Wrong}
 abbrev pub IsReachOf : List Spelled → Option Wrong → Type 0
 IsReachOf ts None = IsReach ts (length ts) None
 IsReachOf ts (Some w) = IsReach ts w.token (Some w.fault)
+
+-- how far that is
+abbrev pub reach_of : List Spelled → Option Wrong → ℕ
+reach_of ts None = length ts
+reach_of ts (Some w) = w.token

@@ -10,6 +10,7 @@
 mod advance;
 mod along;
 pub mod laws;
+pub mod level;
 mod stage;
 mod step;
 pub mod symbol;
@@ -18,6 +19,7 @@ pub mod worked;
 pub mod wrong;
 
 pub use along::first_wrong;
+pub use level::{Level, Reading, Step, Taken};
 pub use step::{assigning as is_assigning, infix as is_infix, is as is_word, kinds_with};
 pub use symbol::{Kinds, Mode, Naming, Symbol};
 pub use token_walk::TokenWalk;

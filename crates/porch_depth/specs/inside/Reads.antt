@@ -5,11 +5,11 @@ use Rattle.porch_lex.specs.declared.token.Token.{Token}
 use Rattle.porch_lex.specs.Words.{spelled}
 use Rattle.porch_walk.specs.Walk.{Stage, start, step, Wrong}
 use Rattle.porch_walk.specs.Walks.{IsAt, knows}
-use Rattle.porch_depth.specs.declared.level.Level.{Level}
-use Rattle.porch_depth.specs.declared.level.Reading.{Reading}
+use Rattle.porch_walk.specs.declared.level.Level.{Level}
+use Rattle.porch_walk.specs.declared.level.Reading.{Reading}
 use Rattle.porch_depth.specs.declared.along.Reader.{Reader}
 use Rattle.porch_depth.specs.declared.sweep.Sweep.{Sweep}
-use Rattle.porch_depth.specs.Levels.{Read, read, readings, covering}
+use Rattle.porch_walk.specs.Levels.{Read, read, readings, covering}
 
 -- what a token shows where the walk stands, and the levels behind it
 abbrev pub read_at : Stage → List Level → ℕ → Spelled → Read

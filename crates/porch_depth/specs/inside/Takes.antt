@@ -7,13 +7,13 @@ use Rattle.porch_tree.specs.declared.word.Word.TheVariants as word
 use Rattle.porch_walk.specs.declared.symbol.Symbol.{Symbol}
 use Rattle.porch_walk.specs.declared.symbol.Symbol.TheVariants.{Texts, Commas, Kind, Consts, ConstantValue, Brackets, Counts, Else}
 use Rattle.porch_walk.specs.Walk.{is, is_mark, is_key, kinds_of}
-use Rattle.porch_depth.specs.declared.level.Level.{Level}
-use Rattle.porch_depth.specs.declared.level.Reading.{Reading}
-use Rattle.porch_depth.specs.declared.level.Step.{Step}
-use Rattle.porch_depth.specs.declared.level.Taken.{Taken}
+use Rattle.porch_walk.specs.declared.level.Level.{Level}
+use Rattle.porch_walk.specs.declared.level.Reading.{Reading}
+use Rattle.porch_walk.specs.declared.level.Step.{Step}
+use Rattle.porch_walk.specs.declared.level.Taken.{Taken}
 use Rattle.porch_depth.specs.declared.take.Here.{Here}
-use Rattle.porch_depth.specs.Plans.{Plan, is_kind}
-use Rattle.porch_depth.specs.Levels.{Read, placed, read_or}
+use Rattle.porch_walk.specs.Plans.{Plan, is_kind}
+use Rattle.porch_walk.specs.Levels.{Read, placed, read_or}
 
 -- these parts in front of others
 abbrev pub with_steps : Here → List Step → List Level → List Level

@@ -1,5 +1,5 @@
 use Rattle.std.proofs.Common.{◌≡◌, reverse, take}
-use Rattle.porch_depth.specs.Levels.{read}
+use Rattle.porch_walk.specs.Levels.{read}
 use Rattle.porch_depth.proofs.read.read.Given as goal
 
 -- what was left out changes nothing

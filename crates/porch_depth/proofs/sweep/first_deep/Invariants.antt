@@ -1,5 +1,6 @@
 use Rattle.std.proofs.Common.{◌≡◌, drop, length}
-use Rattle.porch_depth.specs.Levels.{shown, deep_from}
+use Rattle.porch_walk.specs.Levels.{shown}
+use Rattle.porch_depth.specs.Levels.{deep_from}
 use Rattle.porch_depth.specs.inside.Reads.{IsSwept}
 use Rattle.porch_depth.proofs.sweep.first_deep.Given as goal
 

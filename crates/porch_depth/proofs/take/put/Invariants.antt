@@ -1,5 +1,5 @@
 use Rattle.std.proofs.Common.{◌≡◌, ◌++◌, map, take}
-use Rattle.porch_depth.specs.Levels.{placed}
+use Rattle.porch_walk.specs.Levels.{placed}
 use Rattle.porch_depth.proofs.take.put.Given as goal
 
 -- the parts so far

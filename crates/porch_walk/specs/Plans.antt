@@ -17,9 +17,9 @@ use Rattle.porch_walk.specs.declared.symbol.Kinds.{Kinds}
 use Rattle.porch_walk.specs.declared.symbol.Symbol.{Symbol}
 use Rattle.porch_walk.specs.declared.symbol.Symbol.TheVariants.{Must, Operand, Open, Texts, Suffixes, Behind, Commas, Optional, Base, Kind, Consts, Tag, TagBody, Fields, MoreDeclarators, ConstantValue, Constants, Declarator, Pointer, Nameless, Brackets, Counts, Count, Parameters, Void, MoreParameters, Entries, Entry, MoreEntries, Initial, MoreInitials, NextInitial, FileEntries, FirstEntry, EndTypedef, Body, Statements, Statement, Else, Cases}
 use Rattle.porch_walk.specs.Walk.{or_else, is, is_mark, is_key, is_infix, is_assigning, takes_type, may_name, may_lack, kinds_of}
-use Rattle.porch_depth.specs.declared.level.Step.{Step}
-use Rattle.porch_depth.specs.declared.level.Step.TheVariants.{Up, Keep}
-use Rattle.porch_depth.specs.declared.level.Taken.{Taken}
+use Rattle.porch_walk.specs.declared.level.Step.{Step}
+use Rattle.porch_walk.specs.declared.level.Step.TheVariants.{Up, Keep}
+use Rattle.porch_walk.specs.declared.level.Taken.{Taken}
 
 -- What a part does with a word that it takes: how many uses deeper than the part the token lies, whether
 -- it puts what is before it one use deeper, and the parts that may come behind it.
