@@ -1,6 +1,6 @@
 -- The commands of operators, conversions and conditions.
 use Rattle.std.specs.Prelude.{ℕ, ◌+◌, pos, nat_eq, nat_lt, Bool, true, false, not, ◌&&◌, ◌||◌, if◌then◌else◌, List, [], ◌∷◌, ◌++◌}
-use Rattle.porch_types.specs.declared.shapes.Kind.TheVariants.{Int, Long, ULong}
+use Rattle.porch_types.specs.declared.shapes.Kind.TheVariants.{Char, Short, Int, UInt, Long, ULong}
 use Rattle.porch_types.specs.Kinds.{kind_number}
 use Rattle.porch_values.specs.declared.acts.Op.{Op}
 use Rattle.porch_values.specs.declared.acts.Op.TheVariants as op
@@ -98,9 +98,16 @@ abbrev pub is_converted : Operand → (from to : ℕ) → Bool
 is_converted (Constant z) from to = false
 is_converted (Var v) from to = not (nat_eq from to)
 
--- whether a conversion to a type may meet an act
-abbrev pub may_fail : ℕ → Bool
-may_fail ty = nat_eq ty LONG || nat_eq ty (kind_number ULong)
+-- the types of signed kinds
+abbrev pub is_signed : ℕ → Bool
+is_signed ty = nat_eq ty (kind_number Char) || nat_eq ty (kind_number Short) || nat_eq ty INT || nat_eq ty LONG
+
+-- Whether a conversion may meet an act: to long where the greatest value has no place in 32 bits, and to unsigned long where a
+-- value is negative.
+abbrev pub may_fail : (from to : ℕ) → Bool
+may_fail from to =
+    nat_eq to LONG && (nat_eq from (kind_number UInt) || nat_eq from (kind_number ULong))
+    || nat_eq to (kind_number ULong) && is_signed from
 
 -- a value is used, which meets Indeterminate where there is none
 abbrev pub used_commands : Operand → List Command
@@ -124,7 +131,7 @@ module _ (start : ℕ → ℕ) where
   abbrev pub next_of : ℕ → InUse → ℕ
   next_of ty used = start ty + used ty
 
-  -- An operator on two operands of these types. The right one is used before the left one's conversion may meet an act.
+  -- An operator on two operands of these types. Where the conversion of one may meet an act, the other one is used before.
   abbrev pub operate : Operator → (target : ℕ) → (left : Operand) → (ty : ℕ) → (right : Operand) → (ty' : ℕ) → InUse → ℕ → Code
   operate op d a ty b ty' used label =
       let first = is_converted a ty (left_type op ty) in
@@ -133,10 +140,11 @@ module _ (start : ℕ → ℕ) where
       let with_left = used_if first used (left_type op ty) in
       let t' = next_of (right_type op ty') with_left in
       plain
-      (commands_if (first && may_fail (left_type op ty)) (used_commands b)
+      (commands_if (first && may_fail ty (left_type op ty)) (used_commands b)
+      ++ (commands_if (not first && (second && may_fail ty' (right_type op ty'))) (used_commands a)
       ++ (commands_if first (command.Cast t (var_of a) ∷ [])
       ++ (commands_if second (command.Cast t' (var_of b) ∷ [])
-      ++ operator_command op d (operand_if first t a) (operand_if second t' b) ∷ [])))
+      ++ operator_command op d (operand_if first t a) (operand_if second t' b) ∷ []))))
       (used_if second with_left (right_type op ty')) label
 
   -- a variable's value as an int or a wide value: a small kind is converted

@@ -143,6 +143,15 @@ reads_first =
     ∷ evaluate
     (tree.assign ULONG (tree.variable 3) (join (long_of 2) (operator.Arithmetic Add ULong) (tree.read ULONG (tree.variable 3)))) ∷ [])
 
+-- a = -1; u + a; and u += a; where u has no value: it is read before a is converted
+abbrev pub reads_left : Expression → Program
+reads_left e = main_with (set 0 (minus 0) ∷ evaluate e ∷ [])
+
+abbrev pub missing_left : List Program
+missing_left =
+    reads_left (join (tree.read ULONG (tree.variable 3)) (operator.Arithmetic Add ULong) (local 0))
+    ∷ reads_left (tree.assign_by ULONG (operator.Arithmetic Add ULong) (tree.variable 3) (local 0)) ∷ []
+
 -- -1 + 1ul is Narrow, INT_MAX + 1 Overflow, 1 / 0 Divide, 1 << 32 Shift, and a variable without a value Indeterminate
 abbrev pub narrow_sum : Expression
 narrow_sum = join (minus 0) (operator.Arithmetic Div ULong) (tree.constant ULong (pos 0))
