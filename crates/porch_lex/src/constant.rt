@@ -107,13 +107,13 @@ fn is_suffix(text: &[u8]) -> bool
     }
 }
 
-fn has_u(suffix: &[u8]) -> bool
+pub fn has_u(suffix: &[u8]) -> bool
     ensures { result ≡ list_any is_u suffix.now }
 {
     suffix.iter().any(|c| is_u(*c))
 }
 
-fn has_l(suffix: &[u8]) -> bool
+pub fn has_l(suffix: &[u8]) -> bool
     ensures { result ≡ list_any is_l suffix.now }
 {
     suffix.iter().any(|c| is_l(*c))

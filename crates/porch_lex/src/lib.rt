@@ -22,7 +22,10 @@ pub mod token;
 mod value;
 pub mod worked;
 
+pub use constant::base_of;
 pub use lexer::{SOURCE_LIMIT, lex};
 pub use refusal::{Refusal, Rule, SourceFault};
 pub use token::{Token, TokenKind, word_at};
-pub use value::{character_of, whole_of};
+pub use value::{
+    behind_character, behind_first, character_of, is_long, is_unsigned, whole_of,
+};

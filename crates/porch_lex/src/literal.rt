@@ -109,7 +109,7 @@ fn after_backslash(text: &[u8]) -> Option<usize>
     }
 }
 
-fn character_length(quote: u8, text: &[u8]) -> Option<usize>
+pub fn character_length(quote: u8, text: &[u8]) -> Option<usize>
     ensures { result ≡ character_length quote text.now }
 {
     match text {
