@@ -1,6 +1,6 @@
 -- What constants are spelled, and which expressions are constants: folded under the widths 32 and 64 of long together,
 -- with no undefined behaviour in what is evaluated.
-use Rattle.std.specs.Prelude.{ℕ, zero, suc, ◌-◌, ◌==◌, ℤ, pos, nat_le, int_lt, int_le, Bool, true, false, not, if◌then◌else◌, List, [], ◌∷◌, ◌++◌, drop, Result, Ok, Err, refl}
+use Rattle.std.specs.Prelude.{ℕ, zero, suc, ◌-◌, ◌==◌, ℤ, pos, nat_le, int_lt, int_le, Bool, true, false, not, ◌&&◌, if◌then◌else◌, List, [], ◌∷◌, ◌++◌, drop, Result, Ok, Err, refl}
 use Rattle.std.specs.Option.{option_map_or}
 use Rattle.std.specs.List.{list_any}
 use Rattle.std.specs.Ordering.{int_eq}
@@ -9,7 +9,7 @@ use Rattle.porch_types.specs.declared.shapes.Kind.TheVariants.{Int, UInt, Long, 
 use Rattle.porch_values.specs.declared.acts.Act.{Act}
 use Rattle.porch_values.specs.declared.acts.Op.TheVariants.{Sub}
 use Rattle.porch_values.specs.declared.widths.Widths.{Widths}
-use Rattle.porch_values.specs.Integers.{applied, converted, complemented, signed_bits}
+use Rattle.porch_values.specs.Integers.{applied, converted, complemented, signed_bits, is_operand_kind, is_shift}
 use Rattle.porch_lex.specs.Values.{whole_of, character_of}
 use Rattle.porch_lex.specs.Literals.{character_length}
 use Rattle.porch_lex.specs.Constants.{constant_base, constant_suffix, is_u, is_l, greatest_int}
@@ -108,18 +108,25 @@ does_hold GreaterEqual x y = int_le y x
 does_hold Equal x y = int_eq x y
 does_hold NotEqual x y = not (int_eq x y)
 
--- an operator on integers, each converted to the kind; a shift's count stays as it is
+-- an operator on integers, each converted to the kind, which is a promoted one; a shift's count stays as it is
 abbrev pub folded_step : Operator → ℤ → ℤ → Folded
 folded_step (operator.Arithmetic op kind) x y =
-    as_kind kind x (λ x. as_kind kind y (λ y. known_if_ok (applied op kind both_widths x y)))
-folded_step (operator.Shift op kind) x y = as_kind kind x (λ x. known_if_ok (applied op kind both_widths x y))
+    if is_operand_kind kind && not (is_shift op)
+    then as_kind kind x (λ x. as_kind kind y (λ y. known_if_ok (applied op kind both_widths x y)))
+    else no_constant
+folded_step (operator.Shift op kind) x y =
+    if is_operand_kind kind && is_shift op
+    then as_kind kind x (λ x. known_if_ok (applied op kind both_widths x y))
+    else no_constant
 folded_step (operator.Compare c kind) x y = as_kind kind x (λ x. as_kind kind y (λ y. known (as_int (does_hold c x y))))
 folded_step op x y = no_constant
 
 abbrev pub folded_unary : Unary → Kind → ℤ → Folded
 folded_unary Plus kind x = known x
-folded_unary Minus kind x = known_if_ok (applied Sub kind both_widths (pos 0) x)
-folded_unary Complement kind x = known_if_ok (complemented kind both_widths x)
+folded_unary Minus kind x =
+    if is_operand_kind kind then known_if_ok (applied Sub kind both_widths (pos 0) x) else no_constant
+folded_unary Complement kind x =
+    if is_operand_kind kind then known_if_ok (complemented kind both_widths x) else no_constant
 
 -- of a choice both parts are constants, and one of them is evaluated
 abbrev pub chosen : ℤ → Folded → Folded → Folded
