@@ -1,4 +1,2 @@
 -- what an answer that gives no node says
 pub mod Answers
--- what only private contracts cite
-pub mod inside

@@ -9,11 +9,11 @@ ghost use Rattle.porch_operands.specs.Nodes.{cast_with};
 ghost use Rattle.porch_operands.specs.Views.{as_typed};
 ghost use Rattle.porch_nodes.specs.Answers.{Refuses};
 
-use crate::trees::become_of;
 use crate::unary::value_of;
 use porch_lex::SourceFault;
 use porch_operands::casts::{Cast, cast_to};
 use porch_operands::{Table, Typed};
+use porch_rows::{become_of, drop_tree};
 use porch_typed::Expression;
 use std::alloc::{AllocError, Global};
 
@@ -33,7 +33,10 @@ pub fn cast_value<T: Table>(
 {
     match cast_to(table.class(shape), at, shape, value.sort) {
         Ok(cast) => Ok(cast_of(alloc, value.tree, cast)?),
-        Err(refusal) => Err(SourceFault::Refused(refusal)),
+        Err(refusal) => {
+            drop_tree(value.tree);
+            Err(SourceFault::Refused(refusal))
+        }
     }
 }
 

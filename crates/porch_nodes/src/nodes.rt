@@ -7,10 +7,10 @@ ghost use Rattle.porch_check.specs.Operators.{joined, tree_of};
 ghost use Rattle.porch_operands.specs.Views.{as_typed, as_value, operation_with};
 ghost use Rattle.porch_nodes.specs.Answers.{Refuses};
 
-use crate::trees::operator_tree;
 use porch_lex::SourceFault;
 use porch_operands::operators::operation;
 use porch_operands::{Operation, Sort, Table, Typed};
+use porch_rows::{drop_tree, operator_tree};
 use porch_tree::Infix;
 use porch_typed::Expression;
 use std::alloc::{AllocError, Global};
@@ -34,7 +34,11 @@ pub fn join<T: Table>(
 {
     match operation(sign, at, left.sort, right.sort, table) {
         Ok(operation) => Ok(operated(alloc, sign, begun, left, operation, right.tree)?),
-        Err(refusal) => Err(SourceFault::Refused(refusal)),
+        Err(refusal) => {
+            drop_tree(left.tree);
+            drop_tree(right.tree);
+            Err(SourceFault::Refused(refusal))
+        }
     }
 }
 

@@ -9,10 +9,10 @@ ghost use Rattle.porch_check.specs.Operators.{index_form, pointee_form};
 ghost use Rattle.porch_operands.specs.Views.{as_typed, as_value};
 ghost use Rattle.porch_nodes.specs.Answers.{Refuses};
 
-use crate::trees::new_row;
 use porch_lex::SourceFault;
 use porch_operands::places::Element;
 use porch_operands::{Table, Typed, places};
+use porch_rows::{drop_tree, new_row};
 use porch_typed::{Expression, Place};
 use sqlite_items::Boxed;
 use std::alloc::{AllocError, Global};
@@ -39,7 +39,10 @@ pub fn pointee<T: Table>(
 {
     match places::pointee(at, operand.sort.value, table) {
         Ok(shape) => Ok(object_behind(alloc, operand.tree, shape)?),
-        Err(refusal) => Err(SourceFault::Refused(refusal)),
+        Err(refusal) => {
+            drop_tree(operand.tree);
+            Err(SourceFault::Refused(refusal))
+        }
     }
 }
 
@@ -72,7 +75,11 @@ pub fn index<T: Table>(
 {
     match places::index(at, left.sort.value, right.sort.value, table) {
         Ok(element) => Ok(element_of(alloc, left.tree, element, right.tree)?),
-        Err(refusal) => Err(SourceFault::Refused(refusal)),
+        Err(refusal) => {
+            drop_tree(left.tree);
+            drop_tree(right.tree);
+            Err(SourceFault::Refused(refusal))
+        }
     }
 }
 

@@ -11,6 +11,7 @@ ghost use Rattle.porch_nodes.specs.Answers.{Refuses};
 
 use porch_lex::SourceFault;
 use porch_operands::{Sort, Typed, Value};
+use porch_rows::drop_tree;
 use porch_typed::{Expression, Unary};
 use porch_types::Kind;
 use sqlite_items::Boxed;
@@ -25,7 +26,10 @@ pub fn unary(alloc: Global, op: Unary, at: u32, value: Typed) -> Result<Typed, S
 {
     match porch_operands::unary::unary(at, value.sort.value) {
         Ok(kind) => Ok(unary_of(alloc, op, kind, value.tree)?),
-        Err(refusal) => Err(SourceFault::Refused(refusal)),
+        Err(refusal) => {
+            drop_tree(value.tree);
+            Err(SourceFault::Refused(refusal))
+        }
     }
 }
 
@@ -44,7 +48,7 @@ fn unary_tree(op: Unary, kind: Kind, e: Boxed<Expression>) -> Expression
 }
 
 /// A value that is neither the constant 0 nor an allocation.
-pub(crate) fn value_of(tree: Expression, value: Value) -> Typed
+pub fn value_of(tree: Expression, value: Value) -> Typed
     ensures { as_typed result ≡ typed_as (expression_of tree) (as_value value) }
 {
     Typed {
@@ -61,7 +65,10 @@ pub fn not(alloc: Global, at: u32, value: Typed) -> Result<Typed, SourceFault>
 {
     match porch_operands::unary::not(at, value.sort) {
         Ok(()) => Ok(not_of(alloc, value.tree)?),
-        Err(refusal) => Err(SourceFault::Refused(refusal)),
+        Err(refusal) => {
+            drop_tree(value.tree);
+            Err(SourceFault::Refused(refusal))
+        }
     }
 }
 

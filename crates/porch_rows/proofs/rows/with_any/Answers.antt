@@ -1,8 +1,8 @@
 use Rattle.std.proofs.Common.{ap, map, ◌∙◌}
 use Rattle.porch_typed.specs.Mirror.{any_of}
 use Rattle.porch_typed.specs.Views.{expression_of, expressions_of}
-use Rattle.porch_nodes.proofs.Heads.{expressions_grow}
-use Rattle.porch_nodes.proofs.trees.with_any.Goals as goal
+use Rattle.porch_rows.proofs.Heads.{expressions_grow}
+use Rattle.porch_rows.proofs.rows.with_any.Goals as goal
 
 pub returns : goal.returns
 returns c =

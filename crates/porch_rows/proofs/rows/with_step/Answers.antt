@@ -1,9 +1,9 @@
 use Rattle.std.proofs.Common.{ap, map, ◌∙◌}
 use Rattle.porch_typed.specs.Mirror.{row}
 use Rattle.porch_typed.specs.Views.{expression_of, steps_of}
-use Rattle.porch_nodes.specs.inside.Heads.{step_of}
-use Rattle.porch_nodes.proofs.Heads.{steps_grow}
-use Rattle.porch_nodes.proofs.trees.with_step.Goals as goal
+use Rattle.porch_rows.specs.inside.Parts.{step_of}
+use Rattle.porch_rows.proofs.Heads.{steps_grow}
+use Rattle.porch_rows.proofs.rows.with_step.Goals as goal
 
 pub returns : goal.returns
 returns c =

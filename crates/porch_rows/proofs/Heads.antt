@@ -9,7 +9,9 @@ use Rattle.porch_tree.specs.declared.tree.Infix.TheVariants as sign
 use Rattle.porch_check.specs.Operands.{Typed}
 use Rattle.porch_check.specs.Operands.{null_as}
 use Rattle.porch_check.specs.Operators.{Operation, row_tree, all_tree, any_tree, left_tree, tree_of, with_last_step, with_last}
-use Rattle.porch_nodes.specs.inside.Heads.{is_constant, is_row, is_all, is_any, is_every, is_some_of, step_of}
+use Rattle.porch_rows.specs.Sequences.{sequence_tree}
+use Rattle.porch_rows.specs.inside.Heads.{is_constant, is_short, is_every, is_some_of}
+use Rattle.porch_rows.specs.inside.Parts.{step_of}
 
 pub constant_null : (e : Expression) (n : ℕ) → is_constant e ≡ true → null_as e n ≡ null_pointer n
 constant_null (constant k z) n h = refl
@@ -69,92 +71,121 @@ other_null (allocate m z e) n h = refl
 other_null (release e) n h = refl
 other_null checkpoint n h = refl
 
-pub row_begins : (e : Expression) (op : Operator) (y : Expression) → is_row e ≡ false → row_tree true e op y ≡ row e (with_step op y no_steps)
-row_begins (constant k z) op y h = refl
-row_begins (null_pointer m) op y h = refl
-row_begins (read m p) op y h = refl
-row_begins (whole m p) op y h = refl
-row_begins (address m p) op y h = refl
-row_begins (first m p) op y h = refl
-row_begins (row e ss) op y h = cc
-row_begins (all_of e es) op y h = refl
-row_begins (any_of e es) op y h = refl
-row_begins (unary u k e) op y h = refl
-row_begins (isnt e) op y h = refl
-row_begins (choice t c a b) op y h = refl
-row_begins (sequence e es) op y h = refl
-row_begins (assign m p e) op y h = refl
-row_begins (assign_by m o p e) op y h = refl
-row_begins (increment m b d p) op y h = refl
-row_begins (conversion k e) op y h = refl
-row_begins (discard e) op y h = refl
-row_begins (member_of m l e) op y h = refl
-row_begins (call f es) op y h = refl
-row_begins (put_character e) op y h = refl
-row_begins (put_text e) op y h = refl
-row_begins (put_literal bs) op y h = refl
-row_begins (print ps) op y h = refl
-row_begins (allocate m z e) op y h = refl
-row_begins (release e) op y h = refl
-row_begins checkpoint op y h = refl
+pub row_after_other : (e : Expression) (op : Operator) (y : Expression) → is_short e ≡ true → row_tree true e op y ≡ row e (with_step op y no_steps)
+row_after_other (constant k z) op y h = refl
+row_after_other (null_pointer m) op y h = refl
+row_after_other (read m p) op y h = refl
+row_after_other (whole m p) op y h = refl
+row_after_other (address m p) op y h = refl
+row_after_other (first m p) op y h = refl
+row_after_other (row e ss) op y h = cc
+row_after_other (all_of e es) op y h = cc
+row_after_other (any_of e es) op y h = cc
+row_after_other (unary u k e) op y h = refl
+row_after_other (isnt e) op y h = refl
+row_after_other (choice t c a b) op y h = refl
+row_after_other (sequence e es) op y h = cc
+row_after_other (assign m p e) op y h = refl
+row_after_other (assign_by m o p e) op y h = refl
+row_after_other (increment m b d p) op y h = refl
+row_after_other (conversion k e) op y h = refl
+row_after_other (discard e) op y h = refl
+row_after_other (member_of m l e) op y h = refl
+row_after_other (call f es) op y h = refl
+row_after_other (put_character e) op y h = refl
+row_after_other (put_text e) op y h = refl
+row_after_other (put_literal bs) op y h = refl
+row_after_other (print ps) op y h = refl
+row_after_other (allocate m z e) op y h = refl
+row_after_other (release e) op y h = refl
+row_after_other checkpoint op y h = refl
 
-pub all_begins : (e y : Expression) → is_all e ≡ false → all_tree true e y ≡ all_of e (with_expression y no_expressions)
-all_begins (constant k z) y h = refl
-all_begins (null_pointer m) y h = refl
-all_begins (read m p) y h = refl
-all_begins (whole m p) y h = refl
-all_begins (address m p) y h = refl
-all_begins (first m p) y h = refl
-all_begins (row e ss) y h = refl
-all_begins (all_of e es) y h = cc
-all_begins (any_of e es) y h = refl
-all_begins (unary u k e) y h = refl
-all_begins (isnt e) y h = refl
-all_begins (choice t c a b) y h = refl
-all_begins (sequence e es) y h = refl
-all_begins (assign m p e) y h = refl
-all_begins (assign_by m o p e) y h = refl
-all_begins (increment m b d p) y h = refl
-all_begins (conversion k e) y h = refl
-all_begins (discard e) y h = refl
-all_begins (member_of m l e) y h = refl
-all_begins (call f es) y h = refl
-all_begins (put_character e) y h = refl
-all_begins (put_text e) y h = refl
-all_begins (put_literal bs) y h = refl
-all_begins (print ps) y h = refl
-all_begins (allocate m z e) y h = refl
-all_begins (release e) y h = refl
-all_begins checkpoint y h = refl
+pub all_after_other : (e y : Expression) → is_short e ≡ true → all_tree true e y ≡ all_of e (with_expression y no_expressions)
+all_after_other (constant k z) y h = refl
+all_after_other (null_pointer m) y h = refl
+all_after_other (read m p) y h = refl
+all_after_other (whole m p) y h = refl
+all_after_other (address m p) y h = refl
+all_after_other (first m p) y h = refl
+all_after_other (row e ss) y h = cc
+all_after_other (all_of e es) y h = cc
+all_after_other (any_of e es) y h = cc
+all_after_other (unary u k e) y h = refl
+all_after_other (isnt e) y h = refl
+all_after_other (choice t c a b) y h = refl
+all_after_other (sequence e es) y h = cc
+all_after_other (assign m p e) y h = refl
+all_after_other (assign_by m o p e) y h = refl
+all_after_other (increment m b d p) y h = refl
+all_after_other (conversion k e) y h = refl
+all_after_other (discard e) y h = refl
+all_after_other (member_of m l e) y h = refl
+all_after_other (call f es) y h = refl
+all_after_other (put_character e) y h = refl
+all_after_other (put_text e) y h = refl
+all_after_other (put_literal bs) y h = refl
+all_after_other (print ps) y h = refl
+all_after_other (allocate m z e) y h = refl
+all_after_other (release e) y h = refl
+all_after_other checkpoint y h = refl
 
-pub any_begins : (e y : Expression) → is_any e ≡ false → any_tree true e y ≡ any_of e (with_expression y no_expressions)
-any_begins (constant k z) y h = refl
-any_begins (null_pointer m) y h = refl
-any_begins (read m p) y h = refl
-any_begins (whole m p) y h = refl
-any_begins (address m p) y h = refl
-any_begins (first m p) y h = refl
-any_begins (row e ss) y h = refl
-any_begins (all_of e es) y h = refl
-any_begins (any_of e es) y h = cc
-any_begins (unary u k e) y h = refl
-any_begins (isnt e) y h = refl
-any_begins (choice t c a b) y h = refl
-any_begins (sequence e es) y h = refl
-any_begins (assign m p e) y h = refl
-any_begins (assign_by m o p e) y h = refl
-any_begins (increment m b d p) y h = refl
-any_begins (conversion k e) y h = refl
-any_begins (discard e) y h = refl
-any_begins (member_of m l e) y h = refl
-any_begins (call f es) y h = refl
-any_begins (put_character e) y h = refl
-any_begins (put_text e) y h = refl
-any_begins (put_literal bs) y h = refl
-any_begins (print ps) y h = refl
-any_begins (allocate m z e) y h = refl
-any_begins (release e) y h = refl
-any_begins checkpoint y h = refl
+pub any_after_other : (e y : Expression) → is_short e ≡ true → any_tree true e y ≡ any_of e (with_expression y no_expressions)
+any_after_other (constant k z) y h = refl
+any_after_other (null_pointer m) y h = refl
+any_after_other (read m p) y h = refl
+any_after_other (whole m p) y h = refl
+any_after_other (address m p) y h = refl
+any_after_other (first m p) y h = refl
+any_after_other (row e ss) y h = cc
+any_after_other (all_of e es) y h = cc
+any_after_other (any_of e es) y h = cc
+any_after_other (unary u k e) y h = refl
+any_after_other (isnt e) y h = refl
+any_after_other (choice t c a b) y h = refl
+any_after_other (sequence e es) y h = cc
+any_after_other (assign m p e) y h = refl
+any_after_other (assign_by m o p e) y h = refl
+any_after_other (increment m b d p) y h = refl
+any_after_other (conversion k e) y h = refl
+any_after_other (discard e) y h = refl
+any_after_other (member_of m l e) y h = refl
+any_after_other (call f es) y h = refl
+any_after_other (put_character e) y h = refl
+any_after_other (put_text e) y h = refl
+any_after_other (put_literal bs) y h = refl
+any_after_other (print ps) y h = refl
+any_after_other (allocate m z e) y h = refl
+any_after_other (release e) y h = refl
+any_after_other checkpoint y h = refl
+
+pub sequence_after_other : (e y : Expression) → is_short e ≡ true → sequence_tree true e y ≡ sequence e (with_expression y no_expressions)
+sequence_after_other (constant k z) y h = refl
+sequence_after_other (null_pointer m) y h = refl
+sequence_after_other (read m p) y h = refl
+sequence_after_other (whole m p) y h = refl
+sequence_after_other (address m p) y h = refl
+sequence_after_other (first m p) y h = refl
+sequence_after_other (row e ss) y h = cc
+sequence_after_other (all_of e es) y h = cc
+sequence_after_other (any_of e es) y h = cc
+sequence_after_other (unary u k e) y h = refl
+sequence_after_other (isnt e) y h = refl
+sequence_after_other (choice t c a b) y h = refl
+sequence_after_other (sequence e es) y h = cc
+sequence_after_other (assign m p e) y h = refl
+sequence_after_other (assign_by m o p e) y h = refl
+sequence_after_other (increment m b d p) y h = refl
+sequence_after_other (conversion k e) y h = refl
+sequence_after_other (discard e) y h = refl
+sequence_after_other (member_of m l e) y h = refl
+sequence_after_other (call f es) y h = refl
+sequence_after_other (put_character e) y h = refl
+sequence_after_other (put_text e) y h = refl
+sequence_after_other (put_literal bs) y h = refl
+sequence_after_other (print ps) y h = refl
+sequence_after_other (allocate m z e) y h = refl
+sequence_after_other (release e) y h = refl
+sequence_after_other checkpoint y h = refl
 
 pub steps_grow : (xs : List (Operator × code_expression.Expression)) (op : Operator) (y : code_expression.Expression) → steps_of (map step_of (xs ++ (op, y) ∷ [])) ≡ with_last_step (steps_of (map step_of xs)) op (expression_of y)
 steps_grow [] op y = refl
