@@ -1,0 +1,3 @@
+mod Elsewhere
+mod Assigned
+mod Updates
