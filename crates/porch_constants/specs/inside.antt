@@ -1,0 +1,4 @@
+-- operands of rows
+pub mod Rows
+-- the steps of operators
+pub mod Steps
