@@ -1,0 +1,2 @@
+-- where expressions stand
+pub mod Contexts
