@@ -26,6 +26,4 @@ pub use constant::base_of;
 pub use lexer::{SOURCE_LIMIT, lex};
 pub use refusal::{Refusal, Rule, SourceFault};
 pub use token::{Token, TokenKind, word_at};
-pub use value::{
-    behind_character, behind_first, character_of, is_long, is_unsigned, whole_of,
-};
+pub use value::{behind_character, behind_first, character_of, is_long, is_unsigned, whole_of};

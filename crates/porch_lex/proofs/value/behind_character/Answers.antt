@@ -9,5 +9,5 @@ rest_from-requires c =
     let few = found _ _ _ is (character_within 34 c.args.text.now) in
     let most : c.in-Some.count ≤ length c.args.text.now = few.1 in
     let rest : length c.behind_first-rest.result.now ≡ length c.args.text.now - 1 =
-        ap length c.behind_first-rest.ensures ∙ length-drop 1 c.args.text.now in
+    ap length c.behind_first-rest.ensures ∙ length-drop 1 c.args.text.now in
     omega (arith, most, rest)
