@@ -1,5 +1,6 @@
 pub mod OneMoreBody
 pub mod Bound
+pub mod BoundAgain
 pub mod Completed
 pub mod DeclaredByName
 pub mod Inserted

@@ -7,6 +7,7 @@ ghost use Rattle.porch_check.specs.Operators.{member_named};
 ghost use Rattle.porch_shape.specs.Views.{as_shape};
 ghost use Rattle.porch_scopes.specs.Views.{as_member};
 ghost use Rattle.porch_types.specs.Kinds.{kind_number};
+ghost use Rattle.porch_scopes.specs.Sizes.{is_few, is_small};
 ghost use Rattle.porch_scopes.specs.inside.Rows.{rows_of, array_leaves, leaves_in_rows};
 
 use crate::members::{Member, Members};
@@ -17,6 +18,9 @@ use porch_shape::Shape;
 use porch_types::Kind;
 use std::alloc::{AllocError, Global};
 use std::marker::Model;
+
+/// The most leaves that a type may have.
+pub(crate) const MOST_LEAVES: u64 = 1_048_576;
 
 /// The types of a text while it is read. A type that is no struct has the number of its equals, and is
 /// found in a time that doesn't depend on how many there are. Numbers past 2^32 count as want of memory.
@@ -143,7 +147,7 @@ impl<'t> Shapes<'t> {
 
     /// The number of an array of a type, which is incomplete without a count. More than 2^64 leaves count as
     /// want of memory.
-    pub fn array(&mut self, of: u32, count: Option<u32>) -> Result<u32, AllocError>
+    pub fn array(&mut self, of: u32, count: Option<u64>) -> Result<u32, AllocError>
         ensures number { IfOk result (λ n. numbered (array of count) self.old ≡ (n, self.new)) }
         ensures failed { OnErr result (self.new ≡ self.old) }
     {
@@ -160,6 +164,16 @@ impl<'t> Shapes<'t> {
             Row::new(alloc, Shape::Array(of, count), leaves),
         );
         Ok(number)
+    }
+
+    /// Whether an array of a complete type has at most 1,048,576 leaves. Products past 2^64 are none.
+    pub fn is_small_array(&self, of: u32, count: Option<u64>) -> bool
+        ensures { result ≡ is_small (numbered (array of count) self.now) }
+    {
+        match self.numbers.array(of, count) {
+            Some(number) => self.size(number) <= MOST_LEAVES,
+            None => are_few(count, leaves_at(&self.rows, of)),
+        }
     }
 
     /// The number of a function with this result and these parameters.
@@ -227,14 +241,28 @@ fn leaves_at<'t>(rows: &[Row<'t>], number: u32) -> Option<u64>
     }
 }
 
-fn leaves_of_array(count: Option<u32>, leaves: Option<u64>) -> Result<Option<u64>, AllocError>
+fn are_few(count: Option<u64>, leaves: Option<u64>) -> bool
+    ensures { result
+        ≡ is_few (option_map_or (λ n. n) (array_leaves count leaves) 0) }
+{
+    match (count, leaves) {
+        (Some(count), Some(leaves)) => match count.checked_mul(leaves) {
+            None => false,
+            Some(all) => all <= MOST_LEAVES,
+        },
+        (None, _) => true,
+        (_, None) => true,
+    }
+}
+
+fn leaves_of_array(count: Option<u64>, leaves: Option<u64>) -> Result<Option<u64>, AllocError>
     ensures { IfOk result (λ all. all ≡ array_leaves count leaves) }
 {
     match count {
         None => Ok(None),
         Some(count) => match leaves {
             None => Ok(None),
-            Some(leaves) => match u64::from(count).checked_mul(leaves) {
+            Some(leaves) => match count.checked_mul(leaves) {
                 None => Err(AllocError),
                 Some(all) => Ok(Some(all)),
             },

@@ -8,7 +8,8 @@ ghost use Rattle.porch_scopes.specs.Answers.{IsRefusalOf};
 
 use crate::members::Members;
 use crate::scopes::Scopes;
-use crate::types::{MOST_LEAVES, refusal};
+use crate::shapes::MOST_LEAVES;
+use crate::types::refusal;
 use porch_lex::{Rule, SourceFault};
 
 /// Declares a member of a complete type, by its declarator's place and its name.

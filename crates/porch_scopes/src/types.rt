@@ -9,9 +9,6 @@ ghost use Rattle.porch_scopes.specs.Answers.{IsRefusalOf};
 use crate::scopes::Scopes;
 use porch_lex::{Refusal, Rule, SourceFault};
 
-/// The most leaves that a type may have.
-pub(crate) const MOST_LEAVES: u64 = 1_048_576;
-
 /// A rule is broken at a place.
 pub(crate) fn refusal(rule: Rule, at: u32) -> SourceFault
     ensures { result ≡ fault.Refused (record { at = at; rule = rule }) }
@@ -38,7 +35,7 @@ pub fn array_type<'t>(
     scopes: &mut Scopes<'t>,
     at: u32,
     of: u32,
-    count: Option<u32>,
+    count: Option<u64>,
 ) -> Result<u32, SourceFault>
     ensures typed { IfOk result (λ n. array_type at of count (scopes_of scopes.old)
         ≡ Ok (n, scopes_of scopes.new)) }
@@ -48,10 +45,8 @@ pub fn array_type<'t>(
     if !scopes.shapes.is_complete(of) {
         return Err(refusal(Rule::Mismatch, at));
     }
-    let number = scopes.array(of, count)?;
-    if scopes.shapes.size(number) <= MOST_LEAVES {
-        Ok(number)
-    } else {
-        Err(refusal(Rule::TooLarge, at))
+    if !scopes.shapes.is_small_array(of, count) {
+        return Err(refusal(Rule::TooLarge, at));
     }
+    Ok(scopes.array(of, count)?)
 }

@@ -1,0 +1,11 @@
+-- Types with at most as many leaves as one may have.
+use Rattle.std.specs.Prelude.{ℕ, nat_le, Bool}
+use Rattle.porch_types.specs.Leaves.{MOST_LEAVES}
+use Rattle.porch_check.specs.Shapes.{Shapes, size_of}
+
+abbrev pub is_few : (leaves : ℕ) → Bool
+is_few leaves = nat_le leaves MOST_LEAVES
+
+-- a type by its number, and the types that it is among
+abbrev pub is_small : ℕ × Shapes → Bool
+is_small r = is_few (size_of r.1 r.0)
