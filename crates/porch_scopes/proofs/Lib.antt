@@ -7,4 +7,5 @@ pub mod Inserted
 pub mod Stacked
 pub mod Kept
 pub mod MembersByName
+pub mod SmallMembers
 pub mod Placed

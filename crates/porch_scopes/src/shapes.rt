@@ -1,14 +1,15 @@
 //! The types of a text while it is read, by number. Equal ones have one number.
 
-ghost use Rattle.std.specs.Prelude.{◌≡◌, ◌++◌, ◌∷◌, [], IfOk, OnOk, OnErr, Some, None};
+ghost use Rattle.std.specs.Prelude.{◌≡◌, ◌≤◌, ◌++◌, ◌∷◌, [], length, slice_get, IfOk, IfSome, OnOk, OnErr, Some, None};
 ghost use Rattle.std.specs.Option.{option_map, option_map_or};
 ghost use Rattle.porch_check.specs.Shapes.{first_shapes, first_row, numbered, with_struct, completed, shape_of, leaves_of, is_complete, size_of, is_ever_complete, members_of, structure, pointer, array, function, whole, void};
 ghost use Rattle.porch_check.specs.Operators.{member_named};
 ghost use Rattle.porch_shape.specs.Views.{as_shape};
-ghost use Rattle.porch_scopes.specs.Views.{as_member};
+ghost use Rattle.porch_scopes.specs.Views.{as_member, as_place, place_of};
+ghost use Rattle.porch_types.specs.Leaves as limits;
 ghost use Rattle.porch_types.specs.Kinds.{kind_number};
 ghost use Rattle.porch_scopes.specs.Sizes.{is_few, is_small};
-ghost use Rattle.porch_scopes.specs.inside.Rows.{rows_of, array_leaves, leaves_in_rows};
+ghost use Rattle.porch_scopes.specs.inside.Rows.{rows_of, array_leaves, leaves_in_rows, members_in_rows};
 
 use crate::members::{Member, Members};
 use crate::numbers::Numbers;
@@ -34,14 +35,15 @@ pub struct Shapes<'t> {
 
 impl<'t> Model for Shapes<'t> {
     ghost use Rattle.porch_check.specs.Shapes.{Shapes};
-    ghost use Rattle.porch_scopes.specs.inside.Rows.{rows_of, IsNothing};
+    ghost use Rattle.porch_scopes.specs.inside.Rows.{rows_of, AreSmall, IsNothing};
     ghost use Rattle.porch_scopes.specs.inside.Numbers.{AreNumbers};
 
     ghost Value = { Shapes };
 
     ghost view = { λ s. record { rows = rows_of s.rows.items; complete = s.complete.items } };
 
-    ghost invariant = { λ s. AreNumbers (rows_of s.rows.items) s.numbers × IsNothing s.nothing };
+    ghost invariant = { λ s. AreNumbers (rows_of s.rows.items) s.numbers
+        × IsNothing s.nothing × AreSmall (rows_of s.rows.items) };
 }
 
 impl<'t> Shapes<'t> {
@@ -66,6 +68,13 @@ impl<'t> Shapes<'t> {
             numbers: Numbers::new(alloc),
             nothing: Shape::Void,
         })
+    }
+
+    /// How many there are.
+    pub fn len(&self) -> usize
+        ensures { result ≡ length self.now.rows }
+    {
+        self.rows.len()
     }
 
     /// What a type is; void where there is none of the number.
@@ -117,11 +126,20 @@ impl<'t> Shapes<'t> {
 
     /// The member of a name, of a complete struct.
     pub fn member(&self, number: u32, name: &[u8]) -> Option<Member>
-        ensures { member_named name.now (members_of self.now number)
+        ensures found { member_named name.now (members_of self.now number)
             ≡ option_map (as_member name.now) result }
+        ensures small { IfSome result (λ m. m.leaf ≤ limits.MOST_LEAVES) }
+    {
+        member_in(&self.rows, number, name)
+    }
+
+    /// The member of a place in their order, of a complete struct.
+    pub fn member_at(&self, number: u32, place: usize) -> Option<Member>
+        ensures { option_map as_place result
+            ≡ option_map place_of (slice_get (members_of self.now number) place) }
     {
         match self.rows.get(number as usize) {
-            Some(row) => row.members.find(name),
+            Some(row) => row.members.get(place),
             None => None,
         }
     }
@@ -131,8 +149,9 @@ impl<'t> Shapes<'t> {
         ensures number { IfOk result (λ n. numbered (pointer to) self.old ≡ (n, self.new)) }
         ensures failed { OnErr result (self.new ≡ self.old) }
     {
-        if let Some(number) = self.numbers.pointer(to) {
-            return Ok(number);
+        match self.numbers.pointer(to) {
+            Some(number) => return Ok(number),
+            None => {}
         }
         let number = has_room(&mut self.rows, &mut self.complete)?;
         self.numbers.add_pointer(to, number)?;
@@ -151,8 +170,9 @@ impl<'t> Shapes<'t> {
         ensures number { IfOk result (λ n. numbered (array of count) self.old ≡ (n, self.new)) }
         ensures failed { OnErr result (self.new ≡ self.old) }
     {
-        if let Some(number) = self.numbers.array(of, count) {
-            return Ok(number);
+        match self.numbers.array(of, count) {
+            Some(number) => return Ok(number),
+            None => {}
         }
         let leaves = leaves_of_array(count, leaves_at(&self.rows, of))?;
         let number = has_room(&mut self.rows, &mut self.complete)?;
@@ -212,9 +232,10 @@ impl<'t> Shapes<'t> {
         Ok(number)
     }
 
-    /// Completes a struct by its members.
+    /// Completes a struct by its members, which are no more than a type may have.
     pub fn complete(&mut self, number: u32, members: Members<'t>) -> Result<(), AllocError>
         requires structure { shape_of self.old number ≡ structure number }
+        requires small { members.leaves ≤ limits.MOST_LEAVES }
         ensures completed { OnOk result (self.new
             ≡ completed number members.entry.list members.entry.leaves self.old) }
         ensures failed { OnErr result (self.new ≡ self.old) }
@@ -229,6 +250,16 @@ impl<'t> Shapes<'t> {
         };
         set(&mut self.rows, number, row);
         Ok(())
+    }
+}
+
+fn member_in<'t>(rows: &[Row<'t>], number: u32, name: &[u8]) -> Option<Member>
+    ensures { member_named name.now (members_in_rows (rows_of rows.now) number)
+        ≡ option_map (as_member name.now) result }
+{
+    match rows.get(number as usize) {
+        Some(row) => row.members.find(name),
+        None => None,
     }
 }
 

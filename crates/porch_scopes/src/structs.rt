@@ -1,6 +1,6 @@
 //! Members of structs, and the end of a struct's braces.
 
-ghost use Rattle.std.specs.Prelude.{◌≡◌, Some, Ok, IfOk, IfErr};
+ghost use Rattle.std.specs.Prelude.{◌≡◌, Some, Ok, IfOk, IfErr, OnOk};
 ghost use Rattle.porch_check.specs.Shapes.{shape_of, structure};
 ghost use Rattle.porch_check.specs.Declarations.{declared_member, end_struct};
 ghost use Rattle.porch_scopes.specs.Known.{scopes_of};
@@ -49,6 +49,7 @@ pub fn end_struct<'t>(
     requires structure { shape_of (scopes_of scopes.old).shapes shape ≡ structure shape }
     ensures typed { IfOk result (λ n. end_struct at shape members.entry (scopes_of scopes.old)
         ≡ Ok (n, scopes_of scopes.new)) }
+    ensures outer { OnOk result ((scopes_of scopes.new).outer ≡ (scopes_of scopes.old).outer) }
     ensures refused { IfErr result
         (λ e. IsRefusalOf e (end_struct at shape members.entry (scopes_of scopes.old))) }
 {

@@ -1,6 +1,6 @@
 //! Types that are made of others.
 
-ghost use Rattle.std.specs.Prelude.{◌≡◌, Ok, IfOk, IfErr};
+ghost use Rattle.std.specs.Prelude.{◌≡◌, Ok, IfOk, IfErr, OnOk};
 ghost use Rattle.porch_check.specs.Declarations.{pointer_type, array_type};
 ghost use Rattle.porch_lex.specs.declared.refusal.SourceFault.TheVariants as fault;
 ghost use Rattle.porch_scopes.specs.Known.{scopes_of};
@@ -20,6 +20,7 @@ pub(crate) fn refusal(rule: Rule, at: u32) -> SourceFault
 pub fn pointer_type<'t>(scopes: &mut Scopes<'t>, at: u32, to: u32) -> Result<u32, SourceFault>
     ensures typed { IfOk result (λ n. pointer_type at to (scopes_of scopes.old)
         ≡ Ok (n, scopes_of scopes.new)) }
+    ensures outer { OnOk result ((scopes_of scopes.new).outer ≡ (scopes_of scopes.old).outer) }
     ensures refused { IfErr result
         (λ e. IsRefusalOf e (pointer_type at to (scopes_of scopes.old))) }
 {
@@ -39,6 +40,7 @@ pub fn array_type<'t>(
 ) -> Result<u32, SourceFault>
     ensures typed { IfOk result (λ n. array_type at of count (scopes_of scopes.old)
         ≡ Ok (n, scopes_of scopes.new)) }
+    ensures outer { OnOk result ((scopes_of scopes.new).outer ≡ (scopes_of scopes.old).outer) }
     ensures refused { IfErr result
         (λ e. IsRefusalOf e (array_type at of count (scopes_of scopes.old))) }
 {
