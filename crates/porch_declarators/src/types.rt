@@ -45,8 +45,9 @@ pub fn type_of_name<'t>(
     parts: &[Part<'t>],
     base: u32,
 ) -> Result<u32, SourceFault>
-    ensures typed { IfOk result (λ n. type_of_parts_of (map (part_at at) (map as_part parts.now)) base
-        (scopes_of scopes.old) ≡ Ok (n, scopes_of scopes.new)) }
+    ensures typed { IfOk result (λ n. type_of_parts_of
+        (map (part_at at) (map as_part parts.now)) base (scopes_of scopes.old)
+        ≡ Ok (n, scopes_of scopes.new)) }
     ensures outer { OnOk result ((scopes_of scopes.new).outer ≡ (scopes_of scopes.old).outer) }
     ensures refused { IfErr result (λ e. IsRefusalOf e
         (type_of_parts_of (map (part_at at) (map as_part parts.now)) base (scopes_of scopes.old))) }
