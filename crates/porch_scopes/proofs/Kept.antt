@@ -6,9 +6,12 @@ use Rattle.porch_check.specs.Shapes.{Shape, void, structure, pointer, array, fun
 use Rattle.porch_shape.specs.Views.{as_shape}
 use Rattle.porch_scopes.specs.declared.row.Row as code_row
 use Rattle.porch_scopes.specs.declared.numbers.Numbers as code_numbers
-use Rattle.porch_scopes.specs.inside.Rows.{row_of, rows_of}
+use Rattle.porch_types.specs.Leaves.{MOST_LEAVES}
+use Rattle.porch_scopes.specs.Sizes.{AreWithin}
+use Rattle.porch_scopes.specs.inside.Rows.{row_of, rows_of, AreSmall}
 use Rattle.porch_scopes.specs.inside.Numbers.{AreNumbers, AddsRow}
 use Rattle.porch_scopes.proofs.Placed.{other}
+use Rattle.porch_scopes.proofs.SmallMembers.{small_more, small_set}
 
 structure_more : (rows : List Row) (r : Row) (ns : code_numbers.Numbers) (n : ℕ) → r.shape ≡ structure n
     → AreNumbers rows ns → AreNumbers (rows ++ r ∷ []) ns
@@ -61,3 +64,16 @@ structure_set rs ss row ns n x was is are set =
 pub rows_set : (rs ss : List code_row.Row) (row : code_row.Row) (n : ℕ) → ss ≡ slice_set rs n row
     → rows_of ss ≡ slice_set (rows_of rs) n (row_of row)
 rows_set rs ss row n set = ap rows_of set ∙ map-set row_of rs n row
+
+-- what the members begin within stays small
+
+pub small_added : (rs qs ss : List code_row.Row) (row : code_row.Row) → AreSmall (rows_of rs) → row.members.list ≡ [] → qs ≡ rs
+    → ss ≡ qs ++ row ∷ [] → AreSmall (rows_of ss)
+small_added rs qs ss row h none same more =
+    subst AreSmall (sym (rows_more rs qs ss row same more))
+    (small_more (rows_of rs) (row_of row) h (subst (λ ms. AreWithin ms MOST_LEAVES) (sym none) tt))
+
+pub small_completed : (rs ss : List code_row.Row) (row : code_row.Row) (n : ℕ) → AreSmall (rows_of rs) → AreWithin row.members.list MOST_LEAVES
+    → ss ≡ slice_set rs n row → AreSmall (rows_of ss)
+small_completed rs ss row n h k set =
+    subst AreSmall (sym (rows_set rs ss row n set)) (small_set (rows_of rs) n (row_of row) h k)

@@ -1,9 +1,11 @@
 pub mod OneMoreBody
 pub mod Bound
+pub mod BoundAgain
 pub mod Completed
 pub mod DeclaredByName
 pub mod Inserted
 pub mod Stacked
 pub mod Kept
 pub mod MembersByName
+pub mod SmallMembers
 pub mod Placed

@@ -1,5 +1,7 @@
 -- what the code's tables are in the definitions
 pub mod Views
+-- types with few leaves
+pub mod Sizes
 -- scopes in scopes
 pub mod Stack
 -- what is known at a place of the text

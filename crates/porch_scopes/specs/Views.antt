@@ -20,6 +20,13 @@ as_member name m = record { name = name; shape = m.shape; leaf = m.leaf }
 abbrev pub members_of : List (Bor (List ℕ) × code_member.Member) → (leaves : ℕ) → Members
 members_of entries leaves = record { list = map (λ e. as_member e.0.now e.1) entries; leaves = leaves }
 
+-- the type and the first leaf of a member
+abbrev pub place_of : Member → ℕ × ℕ
+place_of m = (m.shape, m.leaf)
+
+abbrev pub as_place : code_member.Member → ℕ × ℕ
+as_place m = (m.shape, m.leaf)
+
 abbrev pub as_library : code_library.Library → Library
 as_library known.Printf = of_printf
 as_library known.Puts = of_puts

@@ -5,3 +5,4 @@ pub mod Bindings
 pub mod Completes
 pub mod Stacked
 pub mod Numbered
+pub mod Again

@@ -1,6 +1,6 @@
 //! Declarations of functions: any number, each of the type of the first one in the text.
 
-ghost use Rattle.std.specs.Prelude.{◌≡◌, Ok, IfOk, IfErr};
+ghost use Rattle.std.specs.Prelude.{◌≡◌, Ok, IfOk, IfErr, OnOk};
 ghost use Rattle.porch_check.specs.Statements.{declared_function, with_function, with_first_type};
 ghost use Rattle.porch_check.specs.Scopes.{hindrance, of_name};
 ghost use Rattle.porch_scopes.specs.Known.{scopes_of};
@@ -20,6 +20,7 @@ pub fn declare_function<'t>(
     ensures declared { IfOk result (λ _. declared_function
         (record { at = at; bytes = name.now }) shape
         (scopes_of scopes.old) ≡ Ok (shape, scopes_of scopes.new)) }
+    ensures outer { OnOk result ((scopes_of scopes.new).outer ≡ (scopes_of scopes.old).outer) }
     ensures refused { IfErr result (λ e. IsRefusalOf e
         (declared_function (record { at = at; bytes = name.now }) shape (scopes_of scopes.old))) }
 {
@@ -32,6 +33,7 @@ fn declare_name<'t>(scopes: &mut Scopes<'t>, at: u32, name: &'t [u8]) -> Result<
     ensures declared { IfOk result (λ _. with_function (record { at = at; bytes = name.now })
         (hindrance name.now (scopes_of scopes.old)) (scopes_of scopes.old)
         ≡ Ok (0, scopes_of scopes.new)) }
+    ensures outer { OnOk result ((scopes_of scopes.new).outer ≡ (scopes_of scopes.old).outer) }
     ensures refused { IfErr result (λ e. IsRefusalOf e (with_function
         (record { at = at; bytes = name.now })
         (hindrance name.now (scopes_of scopes.old)) (scopes_of scopes.old))) }
@@ -65,6 +67,7 @@ fn declare_type<'t>(
         (record { at = at; bytes = name.now }) shape
         (of_name name.now (scopes_of scopes.old).declared) (scopes_of scopes.old)
         ≡ Ok (shape, scopes_of scopes.new)) }
+    ensures outer { OnOk result ((scopes_of scopes.new).outer ≡ (scopes_of scopes.old).outer) }
     ensures refused { IfErr result (λ e. IsRefusalOf e (with_first_type
         (record { at = at; bytes = name.now }) shape
         (of_name name.now (scopes_of scopes.old).declared) (scopes_of scopes.old))) }

@@ -1,13 +1,14 @@
 //! The members of a struct, by name and in their order.
 
-ghost use Rattle.std.specs.Prelude.{◌≡◌, ◌+◌, ◌++◌, ◌∷◌, [], OnOk, OnErr, false};
+ghost use Rattle.std.specs.Prelude.{◌≡◌, ◌+◌, ◌++◌, ◌∷◌, [], slice_get, OnOk, OnErr, false};
 ghost use Rattle.std.specs.Option.{option_map};
 ghost use Rattle.std.specs.List.{list_any};
 ghost use Rattle.std.specs.Str.{bytes_eq};
 ghost use Rattle.porch_check.specs.Shapes as shapes;
 ghost use Rattle.porch_check.specs.Operators.{member_named};
 ghost use Rattle.porch_check.specs.Declarations.{no_members};
-ghost use Rattle.porch_scopes.specs.Views.{as_member};
+ghost use Rattle.porch_scopes.specs.Views.{as_member, as_place, place_of};
+ghost use Rattle.porch_scopes.specs.Sizes.{AreWithin};
 
 use indexmap::IndexMap;
 use std::alloc::{AllocError, Global};
@@ -31,10 +32,13 @@ pub struct Members<'t> {
 impl<'t> Model for Members<'t> {
     ghost use Rattle.porch_check.specs.Declarations.{Members};
     ghost use Rattle.porch_scopes.specs.Views.{members_of};
+    ghost use Rattle.porch_scopes.specs.Sizes.{AreWithin};
 
     ghost Value = { Members };
 
     ghost view = { λ m. members_of m.known.entries m.leaves };
+
+    ghost invariant = { λ m. AreWithin (members_of m.known.entries m.leaves).list m.leaves };
 }
 
 impl<'t> Members<'t> {
@@ -50,7 +54,8 @@ impl<'t> Members<'t> {
 
     /// How many leaves all of them have.
     pub fn leaves(&self) -> u64
-        ensures { result ≡ self.now.leaves }
+        ensures value { result ≡ self.now.leaves }
+        ensures within { AreWithin self.now.list self.now.leaves }
     {
         self.leaves
     }
@@ -60,6 +65,16 @@ impl<'t> Members<'t> {
         ensures { member_named name.now self.now.list ≡ option_map (as_member name.now) result }
     {
         self.known.get(name).copied()
+    }
+
+    /// The member of a place in their order.
+    pub fn get(&self, place: usize) -> Option<Member>
+        ensures { option_map as_place result ≡ option_map place_of (slice_get self.now.list place) }
+    {
+        match self.known.get_index(place) {
+            Some((_, member)) => Some(*member),
+            None => None,
+        }
     }
 
     /// Whether a member has a name.

@@ -11,7 +11,7 @@ use std::alloc::{AllocError, Global};
 #[derive(Clone, Copy, PartialEq, Eq, Hash)]
 pub(crate) struct Elements {
     pub(crate) of: u32,
-    pub(crate) count: Option<u32>,
+    pub(crate) count: Option<u64>,
 }
 
 /// The numbers of pointers by what they point to, of arrays, and of functions by their results with their
@@ -44,7 +44,7 @@ impl Numbers {
         self.pointers.get(&to).copied()
     }
 
-    pub(crate) fn array(&self, of: u32, count: Option<u32>) -> Option<u32>
+    pub(crate) fn array(&self, of: u32, count: Option<u64>) -> Option<u32>
         ensures { (rows : List Row) → AreNumbers rows self.now
             → result ≡ place_in (array of count) rows 0 }
     {
@@ -74,7 +74,7 @@ impl Numbers {
     pub(crate) fn add_array(
         &mut self,
         of: u32,
-        count: Option<u32>,
+        count: Option<u64>,
         number: u32,
     ) -> Result<(), AllocError>
         ensures added { OnOk result (AddsRow (array of count) number self.old self.new) }

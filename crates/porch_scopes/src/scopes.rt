@@ -133,7 +133,7 @@ impl<'t> Scopes<'t> {
     }
 
     /// The number of an array of a type.
-    pub fn array(&mut self, of: u32, count: Option<u32>) -> Result<u32, AllocError>
+    pub fn array(&mut self, of: u32, count: Option<u64>) -> Result<u32, AllocError>
         ensures { IfOk result (λ n. with_shape (array of count) (scopes_of self.old)
             ≡ (n, scopes_of self.new)) }
     {
@@ -154,6 +154,14 @@ impl<'t> Scopes<'t> {
             ≡ entered (new_scope completes.entry) (scopes_of self.old)) }
     {
         self.stack.enter(alloc, completes)
+    }
+
+    /// Enters a scope again that was left.
+    pub fn reenter(&mut self, alloc: Global, scope: Scope<'t>) -> Result<(), AllocError>
+        ensures { OnOk result (scopes_of self.new
+            ≡ entered (scope_of scope.entry) (scopes_of self.old)) }
+    {
+        self.stack.reenter(alloc, scope)
     }
 
     /// Leaves the innermost scope, and answers it. What stood in front of it is in force again.

@@ -1,13 +1,15 @@
 //! The types of a text while it is read, by number. Equal ones have one number.
 
-ghost use Rattle.std.specs.Prelude.{◌≡◌, ◌++◌, ◌∷◌, [], IfOk, OnOk, OnErr, Some, None};
+ghost use Rattle.std.specs.Prelude.{◌≡◌, ◌≤◌, ◌++◌, ◌∷◌, [], length, slice_get, IfOk, IfSome, OnOk, OnErr, Some, None};
 ghost use Rattle.std.specs.Option.{option_map, option_map_or};
 ghost use Rattle.porch_check.specs.Shapes.{first_shapes, first_row, numbered, with_struct, completed, shape_of, leaves_of, is_complete, size_of, is_ever_complete, members_of, structure, pointer, array, function, whole, void};
 ghost use Rattle.porch_check.specs.Operators.{member_named};
 ghost use Rattle.porch_shape.specs.Views.{as_shape};
-ghost use Rattle.porch_scopes.specs.Views.{as_member};
+ghost use Rattle.porch_scopes.specs.Views.{as_member, as_place, place_of};
+ghost use Rattle.porch_types.specs.Leaves as limits;
 ghost use Rattle.porch_types.specs.Kinds.{kind_number};
-ghost use Rattle.porch_scopes.specs.inside.Rows.{rows_of, array_leaves, leaves_in_rows};
+ghost use Rattle.porch_scopes.specs.Sizes.{is_few, is_small};
+ghost use Rattle.porch_scopes.specs.inside.Rows.{rows_of, array_leaves, leaves_in_rows, members_in_rows};
 
 use crate::members::{Member, Members};
 use crate::numbers::Numbers;
@@ -17,6 +19,9 @@ use porch_shape::Shape;
 use porch_types::Kind;
 use std::alloc::{AllocError, Global};
 use std::marker::Model;
+
+/// The most leaves that a type may have.
+pub(crate) const MOST_LEAVES: u64 = 1_048_576;
 
 /// The types of a text while it is read. A type that is no struct has the number of its equals, and is
 /// found in a time that doesn't depend on how many there are. Numbers past 2^32 count as want of memory.
@@ -30,14 +35,15 @@ pub struct Shapes<'t> {
 
 impl<'t> Model for Shapes<'t> {
     ghost use Rattle.porch_check.specs.Shapes.{Shapes};
-    ghost use Rattle.porch_scopes.specs.inside.Rows.{rows_of, IsNothing};
+    ghost use Rattle.porch_scopes.specs.inside.Rows.{rows_of, AreSmall, IsNothing};
     ghost use Rattle.porch_scopes.specs.inside.Numbers.{AreNumbers};
 
     ghost Value = { Shapes };
 
     ghost view = { λ s. record { rows = rows_of s.rows.items; complete = s.complete.items } };
 
-    ghost invariant = { λ s. AreNumbers (rows_of s.rows.items) s.numbers × IsNothing s.nothing };
+    ghost invariant = { λ s. AreNumbers (rows_of s.rows.items) s.numbers
+        × IsNothing s.nothing × AreSmall (rows_of s.rows.items) };
 }
 
 impl<'t> Shapes<'t> {
@@ -62,6 +68,13 @@ impl<'t> Shapes<'t> {
             numbers: Numbers::new(alloc),
             nothing: Shape::Void,
         })
+    }
+
+    /// How many there are.
+    pub fn len(&self) -> usize
+        ensures { result ≡ length self.now.rows }
+    {
+        self.rows.len()
     }
 
     /// What a type is; void where there is none of the number.
@@ -113,11 +126,20 @@ impl<'t> Shapes<'t> {
 
     /// The member of a name, of a complete struct.
     pub fn member(&self, number: u32, name: &[u8]) -> Option<Member>
-        ensures { member_named name.now (members_of self.now number)
+        ensures found { member_named name.now (members_of self.now number)
             ≡ option_map (as_member name.now) result }
+        ensures small { IfSome result (λ m. m.leaf ≤ limits.MOST_LEAVES) }
+    {
+        member_in(&self.rows, number, name)
+    }
+
+    /// The member of a place in their order, of a complete struct.
+    pub fn member_at(&self, number: u32, place: usize) -> Option<Member>
+        ensures { option_map as_place result
+            ≡ option_map place_of (slice_get (members_of self.now number) place) }
     {
         match self.rows.get(number as usize) {
-            Some(row) => row.members.find(name),
+            Some(row) => row.members.get(place),
             None => None,
         }
     }
@@ -127,8 +149,9 @@ impl<'t> Shapes<'t> {
         ensures number { IfOk result (λ n. numbered (pointer to) self.old ≡ (n, self.new)) }
         ensures failed { OnErr result (self.new ≡ self.old) }
     {
-        if let Some(number) = self.numbers.pointer(to) {
-            return Ok(number);
+        match self.numbers.pointer(to) {
+            Some(number) => return Ok(number),
+            None => {}
         }
         let number = has_room(&mut self.rows, &mut self.complete)?;
         self.numbers.add_pointer(to, number)?;
@@ -143,12 +166,13 @@ impl<'t> Shapes<'t> {
 
     /// The number of an array of a type, which is incomplete without a count. More than 2^64 leaves count as
     /// want of memory.
-    pub fn array(&mut self, of: u32, count: Option<u32>) -> Result<u32, AllocError>
+    pub fn array(&mut self, of: u32, count: Option<u64>) -> Result<u32, AllocError>
         ensures number { IfOk result (λ n. numbered (array of count) self.old ≡ (n, self.new)) }
         ensures failed { OnErr result (self.new ≡ self.old) }
     {
-        if let Some(number) = self.numbers.array(of, count) {
-            return Ok(number);
+        match self.numbers.array(of, count) {
+            Some(number) => return Ok(number),
+            None => {}
         }
         let leaves = leaves_of_array(count, leaves_at(&self.rows, of))?;
         let number = has_room(&mut self.rows, &mut self.complete)?;
@@ -160,6 +184,16 @@ impl<'t> Shapes<'t> {
             Row::new(alloc, Shape::Array(of, count), leaves),
         );
         Ok(number)
+    }
+
+    /// Whether an array of a complete type has at most 1,048,576 leaves. Products past 2^64 are none.
+    pub fn is_small_array(&self, of: u32, count: Option<u64>) -> bool
+        ensures { result ≡ is_small (numbered (array of count) self.now) }
+    {
+        match self.numbers.array(of, count) {
+            Some(number) => self.size(number) <= MOST_LEAVES,
+            None => are_few(count, leaves_at(&self.rows, of)),
+        }
     }
 
     /// The number of a function with this result and these parameters.
@@ -198,9 +232,10 @@ impl<'t> Shapes<'t> {
         Ok(number)
     }
 
-    /// Completes a struct by its members.
+    /// Completes a struct by its members, which are no more than a type may have.
     pub fn complete(&mut self, number: u32, members: Members<'t>) -> Result<(), AllocError>
         requires structure { shape_of self.old number ≡ structure number }
+        requires small { members.leaves ≤ limits.MOST_LEAVES }
         ensures completed { OnOk result (self.new
             ≡ completed number members.entry.list members.entry.leaves self.old) }
         ensures failed { OnErr result (self.new ≡ self.old) }
@@ -218,6 +253,16 @@ impl<'t> Shapes<'t> {
     }
 }
 
+fn member_in<'t>(rows: &[Row<'t>], number: u32, name: &[u8]) -> Option<Member>
+    ensures { member_named name.now (members_in_rows (rows_of rows.now) number)
+        ≡ option_map (as_member name.now) result }
+{
+    match rows.get(number as usize) {
+        Some(row) => row.members.find(name),
+        None => None,
+    }
+}
+
 fn leaves_at<'t>(rows: &[Row<'t>], number: u32) -> Option<u64>
     ensures { result ≡ leaves_in_rows (rows_of rows.now) number }
 {
@@ -227,14 +272,28 @@ fn leaves_at<'t>(rows: &[Row<'t>], number: u32) -> Option<u64>
     }
 }
 
-fn leaves_of_array(count: Option<u32>, leaves: Option<u64>) -> Result<Option<u64>, AllocError>
+fn are_few(count: Option<u64>, leaves: Option<u64>) -> bool
+    ensures { result
+        ≡ is_few (option_map_or (λ n. n) (array_leaves count leaves) 0) }
+{
+    match (count, leaves) {
+        (Some(count), Some(leaves)) => match count.checked_mul(leaves) {
+            None => false,
+            Some(all) => all <= MOST_LEAVES,
+        },
+        (None, _) => true,
+        (_, None) => true,
+    }
+}
+
+fn leaves_of_array(count: Option<u64>, leaves: Option<u64>) -> Result<Option<u64>, AllocError>
     ensures { IfOk result (λ all. all ≡ array_leaves count leaves) }
 {
     match count {
         None => Ok(None),
         Some(count) => match leaves {
             None => Ok(None),
-            Some(leaves) => match u64::from(count).checked_mul(leaves) {
+            Some(leaves) => match count.checked_mul(leaves) {
                 None => Err(AllocError),
                 Some(all) => Ok(Some(all)),
             },

@@ -8,8 +8,9 @@ ghost use Rattle.porch_check.specs.Scopes as scopes;
 ghost use Rattle.porch_check.specs.Scopes.{name_in, tag_in, of_name, of_tag, are_none, new_scope};
 ghost use Rattle.porch_scopes.specs.Views.{as_meaning, as_tag, scope_of};
 ghost use Rattle.porch_scopes.specs.Stack.{binds, binds_tag, enters};
+ghost use Rattle.porch_scopes.specs.inside.Again.{binds_names, binds_tags};
 
-use crate::bindings::{Found, bind, find, unbind, value_of, within};
+use crate::bindings::{Binding, Found, bind, find, unbind, value_of, within};
 use crate::completes::Completes;
 use crate::meaning::{Meaning, Tag};
 use crate::scope::Scope;
@@ -137,6 +138,20 @@ impl<'t> ScopeStack<'t> {
         Ok(())
     }
 
+    /// Enters a scope again that was left. Its names and tags hide what is declared around it now.
+    pub fn reenter(&mut self, alloc: Global, scope: Scope<'t>) -> Result<(), AllocError>
+        ensures { OnOk result (self.new ≡ enters (scope_of scope.entry) self.old) }
+    {
+        let Scope {
+            names,
+            tags,
+            completes,
+        } = scope;
+        self.enter(alloc, completes)?;
+        declare_names(self, &names)?;
+        declare_tags(self, &tags)
+    }
+
     /// Leaves the innermost scope, and answers it; nothing where it is alone.
     pub fn leave(&mut self) -> Option<Scope<'t>>
         ensures left { (i : scopes.Scope) (o : List scopes.Scope) → self.old.outer ≡ i ∷ o
@@ -153,4 +168,27 @@ impl<'t> ScopeStack<'t> {
             None => None,
         }
     }
+}
+
+// Declares names in the innermost scope, in their order.
+fn declare_names<'t>(
+    stack: &mut ScopeStack<'t>,
+    names: &[Binding<'t, Meaning>],
+) -> Result<(), AllocError>
+    ensures { OnOk result (stack.new ≡ binds_names names.now stack.old) }
+{
+    for binding in names {
+        stack.declare(binding.name, binding.value)?;
+    }
+    Ok(())
+}
+
+// Declares tags in the innermost scope, in their order.
+fn declare_tags<'t>(stack: &mut ScopeStack<'t>, tags: &[Binding<'t, Tag>]) -> Result<(), AllocError>
+    ensures { OnOk result (stack.new ≡ binds_tags tags.now stack.old) }
+{
+    for binding in tags {
+        stack.declare_tag(binding.name, binding.value)?;
+    }
+    Ok(())
 }

@@ -1,6 +1,6 @@
 //! Members of structs, and the end of a struct's braces.
 
-ghost use Rattle.std.specs.Prelude.{◌≡◌, Some, Ok, IfOk, IfErr};
+ghost use Rattle.std.specs.Prelude.{◌≡◌, Some, Ok, IfOk, IfErr, OnOk};
 ghost use Rattle.porch_check.specs.Shapes.{shape_of, structure};
 ghost use Rattle.porch_check.specs.Declarations.{declared_member, end_struct};
 ghost use Rattle.porch_scopes.specs.Known.{scopes_of};
@@ -8,7 +8,8 @@ ghost use Rattle.porch_scopes.specs.Answers.{IsRefusalOf};
 
 use crate::members::Members;
 use crate::scopes::Scopes;
-use crate::types::{MOST_LEAVES, refusal};
+use crate::shapes::MOST_LEAVES;
+use crate::types::refusal;
 use porch_lex::{Rule, SourceFault};
 
 /// Declares a member of a complete type, by its declarator's place and its name.
@@ -48,6 +49,7 @@ pub fn end_struct<'t>(
     requires structure { shape_of (scopes_of scopes.old).shapes shape ≡ structure shape }
     ensures typed { IfOk result (λ n. end_struct at shape members.entry (scopes_of scopes.old)
         ≡ Ok (n, scopes_of scopes.new)) }
+    ensures outer { OnOk result ((scopes_of scopes.new).outer ≡ (scopes_of scopes.old).outer) }
     ensures refused { IfErr result
         (λ e. IsRefusalOf e (end_struct at shape members.entry (scopes_of scopes.old))) }
 {

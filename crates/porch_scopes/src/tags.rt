@@ -1,6 +1,6 @@
 //! Tags, and structs with braces.
 
-ghost use Rattle.std.specs.Prelude.{◌≡◌, ℕ, List, Ok, IfOk, IfErr};
+ghost use Rattle.std.specs.Prelude.{◌≡◌, ℕ, List, Ok, IfOk, IfErr, OnOk};
 ghost use Rattle.std.specs.Option.{option_map};
 ghost use Rattle.porch_check.specs.Scopes.{tag_of, tag_here};
 ghost use Rattle.porch_check.specs.Scopes as definitions;
@@ -46,6 +46,7 @@ fn tag_or_new<'t>(
 ) -> Result<u32, SourceFault>
     ensures typed { IfOk result (λ n. tagged sort at (record { at = name_at; bytes = name.now })
         (option_map (as_tag name.now) tag) (scopes_of scopes.old) ≡ Ok (n, scopes_of scopes.new)) }
+    ensures outer { OnOk result ((scopes_of scopes.new).outer ≡ (scopes_of scopes.old).outer) }
     ensures refused { IfErr result (λ e. IsRefusalOf e (tagged sort at
         (record { at = name_at; bytes = name.now }) (option_map (as_tag name.now) tag)
         (scopes_of scopes.old))) }
@@ -70,6 +71,7 @@ pub fn tagged_type<'t>(
     ensures typed { IfOk result (λ n. tagged sort at (record { at = name_at; bytes = name.now })
         (tag_of name.now (scopes_of scopes.old)) (scopes_of scopes.old)
         ≡ Ok (n, scopes_of scopes.new)) }
+    ensures outer { OnOk result ((scopes_of scopes.new).outer ≡ (scopes_of scopes.old).outer) }
     ensures refused { IfErr result (λ e. IsRefusalOf e (tagged sort at
         (record { at = name_at; bytes = name.now }) (tag_of name.now (scopes_of scopes.old))
         (scopes_of scopes.old))) }
@@ -88,6 +90,7 @@ pub fn lone_tag<'t>(
 ) -> Result<u32, SourceFault>
     ensures typed { IfOk result (λ n. tag_alone sort at (record { at = name_at; bytes = name.now })
         (scopes_of scopes.old) ≡ Ok (n, scopes_of scopes.new)) }
+    ensures outer { OnOk result ((scopes_of scopes.new).outer ≡ (scopes_of scopes.old).outer) }
     ensures refused { IfErr result (λ e. IsRefusalOf e (tag_alone sort at
         (record { at = name_at; bytes = name.now }) (scopes_of scopes.old))) }
 {
@@ -112,6 +115,7 @@ pub fn begin_struct<'t>(
     ensures typed { IfOk result (λ n. begun_struct (record { at = name_at; bytes = name.now })
         (tag_here name.now (scopes_of scopes.old)) (scopes_of scopes.old)
         ≡ Ok (n, scopes_of scopes.new)) }
+    ensures outer { OnOk result ((scopes_of scopes.new).outer ≡ (scopes_of scopes.old).outer) }
     ensures refused { IfErr result (λ e. IsRefusalOf e (begun_struct
         (record { at = name_at; bytes = name.now })
         (tag_here name.now (scopes_of scopes.old)) (scopes_of scopes.old))) }

@@ -14,7 +14,7 @@ pub enum Shape {
     /// A pointer to a type.
     Pointer(u32),
     /// An array of a type. Without a count it is incomplete.
-    Array(u32, Option<u32>),
+    Array(u32, Option<u64>),
     /// A struct, by its own number: each declaration of a tag makes another one.
     Structure(u32),
     /// A function: its result, and its parameters.
@@ -39,7 +39,7 @@ impl Shape {
     }
 }
 
-fn is_count(a: Option<u32>, b: Option<u32>) -> bool
+fn is_count(a: Option<u64>, b: Option<u64>) -> bool
     ensures { result ≡ count_eq a b }
 {
     match (a, b) {

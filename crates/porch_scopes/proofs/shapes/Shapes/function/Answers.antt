@@ -3,7 +3,7 @@ use Rattle.porch_check.specs.Shapes.{function}
 use Rattle.porch_shape.specs.Views.{as_shape}
 use Rattle.porch_scopes.specs.declared.row.Row as code_row
 use Rattle.porch_scopes.specs.inside.Rows.{rows_of}
-use Rattle.porch_scopes.proofs.Kept.{function_added}
+use Rattle.porch_scopes.proofs.Kept.{function_added, small_added}
 use Rattle.porch_scopes.proofs.shapes.Shapes.function.Goals as goal
 
 pub invariant_of-self-2 : goal.invariant_of-self-2
@@ -18,4 +18,7 @@ invariant_of-self-2 c =
           (c.in_ok-add_function.ensures.added c.args.gives c.args.params.now c.in_ok-types.ensures)
           c.self.invariant.0 c.in_ok-number.ensures.rows c.put.ensures.rows,
       c.self.invariant.1,
+      small_added rows c.has_room.new.rows.items c.put.new.rows.items c.new.result c.self.invariant.2
+          (ap (λ (r : code_row.Row). r.members.list) c.new.ensures)
+          c.in_ok-number.ensures.rows c.put.ensures.rows,
     )

@@ -1,0 +1,2 @@
+mod LastParts
+mod MoreStars

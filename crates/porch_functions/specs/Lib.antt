@@ -1,0 +1,2 @@
+-- parameter lists among the parts of declarators
+pub mod Lists

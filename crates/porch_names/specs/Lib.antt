@@ -1,0 +1,2 @@
+-- what the code's names and parameters are in the definitions
+pub mod Views
