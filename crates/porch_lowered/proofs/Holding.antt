@@ -36,6 +36,7 @@ pub record IsSetting (c : Context) : Type 0 where
   pub declared : (v ty place : ℕ) → slice_get c.variables v ≡ Some ty → var_type c.flat (frame c place) v ≡ Some ty
   pub are : IsTypes c.flat.types
   pub kinds : (kind : Kind) → slice_get c.flat.types (kind_number kind) ≡ Some (Whole kind)
+  pub whole : (ty : ℕ) (kind : Kind) → slice_get c.flat.types ty ≡ Some (Whole kind) → ty ≡ kind_number kind
   pub keeps : KeepTypes
   pub some_width : IsTrue (c.under.widths.narrow || c.under.widths.wide)
   pub converts : (kind : Kind) (z w : ℤ) → converted kind c.under.widths z ≡ Ok w → IsTrue (is_value_of kind c.under.widths w)

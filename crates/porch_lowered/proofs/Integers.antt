@@ -88,11 +88,11 @@ module _ (c : Context) (set : IsSetting c) where
 
   -- Arithmetic, and shifts: the right operand of these has a kind of its own.
   pub arithmetic_finishes : (o : Op) (kind kind' : Kind)
-      → Finishes c set kind kind' (kind_number kind) (of_numbers (λ x y. applied o kind c.under.widths x y)) (arithmetic o)
+      → Finishes c set (λ a. ⊤) kind kind' (kind_number kind) (of_numbers (λ x y. applied o kind c.under.widths x y)) (arithmetic o)
   arithmetic_finishes o kind kind' =
       record {
         quiet = λ d a b. rw (arithmetic_form o d a b) (record { calm = refl; silent = λ s frame. refl });
-        does_is = λ place d made s ts used a b x y ready oa xa ob yb may.
+        does_is = λ place d made s ts used a b x y ready oa xa ob yb may allowed.
             ap (λ f. does c.flat c.under (frame c place) c.callers f (here c s ts place)) (arithmetic_form o d a b)
             ∙ ap (λ x. works o d place s ts (kind_in c.flat (frame c place) d) x (operand_of c.flat None b (here c s ts place)))
             (number_is c set made s ts place (kind_number kind) kind used a x None (set.kinds kind) (inl refl) ready oa xa)

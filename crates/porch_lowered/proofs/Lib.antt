@@ -38,6 +38,10 @@ pub mod Commands
 pub mod Operate
 -- arithmetic and shifts
 pub mod Integers
+-- comparisons of integers
+pub mod Comparisons
+-- the code of operators on integers
+pub mod OperatorCode
 -- values that are held, and what follows
 pub mod Held
 -- single forms
@@ -50,3 +54,5 @@ pub mod Places
 pub mod Choices
 -- pointers that are stepped, and the elements between two
 pub mod Pointers
+-- the code of operators that step a pointer
+pub mod PointerCode

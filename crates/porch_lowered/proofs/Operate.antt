@@ -73,11 +73,12 @@ module _ (c : Context) (set : IsSetting c) where
       (let e : place + 0 ≡ place = omega arith in k (rw e (stays c.flat c.under c.n (here c s ts place) s.marks)))
 
   -- What a converted operator's command does: `last` is what it makes of the converted values.
-  pub record Finishes (kind kind' : Kind) (ty : ℕ) (last : Value → Value → Result Value Act) (make : (target : ℕ) → (left right : Operand) → Command) : Type 0 where
+  -- The left operand has to be one that it allows.
+  pub record Finishes (allowed : Operand → Type 0) (kind kind' : Kind) (ty : ℕ) (last : Value → Value → Result Value Act) (make : (target : ℕ) → (left right : Operand) → Command) : Type 0 where
     pub quiet : (d : ℕ) (a b : Operand) → IsQuiet c.flat (form_of (make d a b))
     pub does_is : (place d : ℕ) (made : StoreTyping) (s : Progress) (ts : List Object) (used : InUse) (a b : Operand) (x y : Value) → IsReady c made s ts
         → IsOperand c (kind_number kind) used s ts a x → IsOf c made (kind_number kind) x
-        → IsOperand c (kind_number kind') used s ts b y → IsOf c made (kind_number kind') y → MayGo c ty (Some d)
+        → IsOperand c (kind_number kind') used s ts b y → IsOf c made (kind_number kind') y → MayGo c ty (Some d) → allowed a
         → does c.flat c.under (frame c place) c.callers (form_of (make d a b)) (here c s ts place)
         ≡ if_ok (last (seen s.store x) (seen s.store y)) (λ w. Goes (put d w (here c s ts (place + 1))))
     pub gives : (made : StoreTyping) (x y : Value) → IsNumber (InRange kind) x → IsNumber (InRange kind') y → Gives (IsOf c made ty) (last x y)
@@ -106,7 +107,7 @@ module _ (c : Context) (set : IsSetting c) where
   Fits kind (Constant z) = InRange kind z
 
   -- where it needs no conversion it is one of the kind
-  same_kind : (made : StoreTyping) (s : Progress) (ts : List Object) (used : InUse) (ty : ℕ) (from kind : Kind) (o : Operand) (v : Value)
+  pub same_kind : (made : StoreTyping) (s : Progress) (ts : List Object) (used : InUse) (ty : ℕ) (from kind : Kind) (o : Operand) (v : Value)
       → slice_get c.flat.types ty ≡ Some (Whole from) → ty ≡ kind_number from → Fits kind o → IsOperand c ty used s ts o v → IsOf c made ty v
       → is_converted o ty (kind_number kind) ≡ false → IsOperand c (kind_number kind) used s ts o v × IsOf c made (kind_number kind) v
   same_kind made s ts used ty from kind (Var x) v shape is fits operand of same =
@@ -119,7 +120,7 @@ module _ (c : Context) (set : IsSetting c) where
       (ap (λ shape. constant_of shape z) (set.kinds kind) ∙ value,
       subst (λ v. IsOf c made (kind_number kind) v) value (kind, set.kinds kind, fits))
 
-  is_variable : (ty to : ℕ) (o : Operand) → is_converted o ty to ≡ true → (x : ℕ) × (o ≡ Var x)
+  pub is_variable : (ty to : ℕ) (o : Operand) → is_converted o ty to ≡ true → (x : ℕ) × (o ≡ Var x)
   is_variable ty to (Var x) e = (x, refl)
   is_variable ty to (Constant z) e = cc
 
@@ -145,7 +146,7 @@ module _ (c : Context) (set : IsSetting c) where
   number_of P indeterminate p = tt
 
   -- what is behind a way from here is behind it from here
-  from_here : (ty d place place' end : ℕ) (made : StoreTyping) (s : Progress) (ts ts' : List Object) (used used' : InUse) (r : Result Value Act)
+  pub from_here : (ty d place place' end : ℕ) (made : StoreTyping) (s : Progress) (ts ts' : List Object) (used used' : InUse) (r : Result Value Act)
       → On c (here c s ts place) s.marks (here c s ts' place') s.marks → Keeps c None used ts ts' → ((i : ℕ) → IsUsed c used i → IsUsed c used' i)
       → Follow c (with_result r s (λ w s. Went w s)) (here c s ts' place') s.marks (Arrives c ty made (Some d) used' ts' (here c s ts' place') s.marks end)
       → Follow c (with_result r s (λ w s. Went w s)) (here c s ts place) s.marks (Arrives c ty made (Some d) used ts (here c s ts place) s.marks end)
@@ -164,8 +165,8 @@ module _ (c : Context) (set : IsSetting c) where
       }))
       follows
 
-  pub operands_follow : (kind kind' from from' : Kind) (ty ty' result d place : ℕ) (last : Value → Value → Result Value Act) (make : (target : ℕ) → (left right : Operand) → Command)
-      (a b : Operand) (v w : Value) (made : StoreTyping) (s : Progress) (ts : List Object) (used : InUse) → Finishes kind kind' result last make
+  pub operands_follow : (allowed : Operand → Type 0) (kind kind' from from' : Kind) (ty ty' result d place : ℕ) (last : Value → Value → Result Value Act) (make : (target : ℕ) → (left right : Operand) → Command)
+      (a b : Operand) (v w : Value) (made : StoreTyping) (s : Progress) (ts : List Object) (used : InUse) → Finishes allowed kind kind' result last make → ((t : ℕ) → allowed (Var t)) → allowed a
       → slice_get c.flat.types ty ≡ Some (Whole from) → ty ≡ kind_number from → slice_get c.flat.types ty' ≡ Some (Whole from') → ty' ≡ kind_number from'
       → Fits kind a → Fits kind' b → IsReady c made s ts → IsOperand c ty used s ts a v → IsOf c made ty v → IsOperand c ty' used s ts b w → IsOf c made ty' w
       → MayGo c result (Some d)
@@ -175,7 +176,7 @@ module _ (c : Context) (set : IsSetting c) where
       (with_result (source_gives (λ z. converted kind c.under.widths z) (λ z. converted kind' c.under.widths z) last (seen s.store v) (seen s.store w)) s (λ w s. Went w s))
       (here c s ts place) s.marks
       (Arrives c result made (Some d) used ts (here c s ts place) s.marks (place + length (converted_code kind kind' make d a ty b ty' used)))
-  operands_follow kind kind' from from' ty ty' result d place last make a b v w made s ts used finish shape is shape' is' fits fits' ready oa va ob vb may room stands =
+  operands_follow allowed kind kind' from from' ty ty' result d place last make a b v w made s ts used finish each here_allowed shape is shape' is' fits fits' ready oa va ob vb may room stands =
       let to = kind_number kind in
       let to' = kind_number kind' in
       let first = is_converted a ty to in
@@ -239,11 +240,15 @@ module _ (c : Context) (set : IsSetting c) where
       command_follows c result d p4 x made s right_is.temporaries (used_if second with_left to') (last l r) right_is.ready r4.0
       (finish.quiet d (operand_if first t a) (operand_if second t' b))
       (finish.does_is p4 d made s right_is.temporaries (used_if second with_left to') (operand_if first t a) (operand_if second t' b) left_is.value right_is.value right_is.ready
-      oa' left_is.of right_is.operand right_is.of may
+      oa' left_is.of right_is.operand right_is.of may (allowed_if first t a here_allowed)
       ∙ ap (λ l. if_ok (last l (seen s.store right_is.value)) (λ w. Goes (put d w (here c s right_is.temporaries (p4 + 1))))) left_is.is
       ∙ ap (λ r. if_ok (last l r) (λ w. Goes (put d w (here c s right_is.temporaries (p4 + 1))))) right_is.is)
       (finish.gives made l r l_number r_number)))))))))))
     where
+      allowed_if : (b : Bool) (t : ℕ) (o : Operand) → allowed o → allowed (operand_if b t o)
+      allowed_if true t o h = each t
+      allowed_if false t o h = h
+
       room_less : (b : Bool) (used : InUse) (ty t : ℕ) → used_if b used ty t ≤ c.pools t → used t ≤ c.pools t
       room_less true used ty t h = (let a = one_at_least c set ty used t in omega (arith, a, h))
       room_less false used ty t h = h
