@@ -6,6 +6,7 @@ use Rattle.porch_types.specs.declared.shapes.Kind.{Kind}
 use Rattle.porch_types.specs.declared.shapes.Ty.TheVariants.{Whole}
 use Rattle.porch_types.specs.Kinds.{kind_number}
 use Rattle.porch_types.specs.Leaves.{IsTypes}
+use Rattle.porch_types.specs.LeafTypes.{IsScalar, leaf_type}
 use Rattle.porch_values.specs.declared.acts.Op.{Op}
 use Rattle.porch_values.specs.Integers.{applied, complemented, converted, is_value_of}
 use Rattle.porch_objects.specs.Store.{of_call, Value, Object, seen, leaf_at, with_leaf_at}
@@ -37,6 +38,7 @@ pub record IsSetting (c : Context) : Type 0 where
   pub are : IsTypes c.flat.types
   pub kinds : (kind : Kind) → slice_get c.flat.types (kind_number kind) ≡ Some (Whole kind)
   pub whole : (ty : ℕ) (kind : Kind) → slice_get c.flat.types ty ≡ Some (Whole kind) → ty ≡ kind_number kind
+  pub scalar_leaf : (ty leaf : ℕ) → IsScalar (slice_get c.flat.types ty) → leaf_type c.flat.types ty leaf ≡ ty
   pub keeps : KeepTypes
   pub some_width : IsTrue (c.under.widths.narrow || c.under.widths.wide)
   pub converts : (kind : Kind) (z w : ℤ) → converted kind c.under.widths z ≡ Ok w → IsTrue (is_value_of kind c.under.widths w)

@@ -56,3 +56,7 @@ pub mod Choices
 pub mod Pointers
 -- the code of operators that step a pointer
 pub mod PointerCode
+-- expressions that are operands where they stand
+pub mod Atoms
+-- what is read, and conversions
+pub mod Converted
