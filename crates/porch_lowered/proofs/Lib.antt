@@ -60,3 +60,5 @@ pub mod PointerCode
 pub mod Atoms
 -- what is read, and conversions
 pub mod Converted
+-- what is stored
+pub mod Stores
