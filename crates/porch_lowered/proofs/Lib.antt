@@ -62,3 +62,7 @@ pub mod Atoms
 pub mod Converted
 -- what is stored
 pub mod Stores
+-- variables that are assigned to
+pub mod Assignments
+-- `+`, `-` and `~` of an operand
+pub mod Unary

@@ -30,7 +30,7 @@ use Rattle.porch_lowered.proofs.States.{Stands, variable_value, command_goes, co
 use Rattle.porch_lowered.proofs.Codes.{Context, first, commands, frame, here, IsOf, On, Follow, IsUsed, Keeps, IsReady, grounded, MayGo}
 use Rattle.porch_lowered.proofs.Holding.{IsSetting, temporary_value}
 
-get_within : (xs : List ℕ) (i x : ℕ) → slice_get xs i ≡ Some x → i < length xs
+pub get_within : (xs : List ℕ) (i x : ℕ) → slice_get xs i ≡ Some x → i < length xs
 get_within [] i x e = cc
 get_within (y ∷ xs) zero x e = omega arith
 get_within (y ∷ xs) (suc i) x e = (let less = get_within xs i x e in omega (arith, less))

@@ -125,7 +125,7 @@ module _ (c : Context) (set : IsSetting c) where
   is_variable ty to (Constant z) e = cc
 
   -- a number that is not converted has the kind already
-  stays_number : (made : StoreTyping) (ty : ℕ) (from kind : Kind) (o : Operand) → ty ≡ kind_number from → slice_get c.flat.types ty ≡ Some (Whole from) → Fits kind o
+  pub stays_number : (made : StoreTyping) (ty : ℕ) (from kind : Kind) (o : Operand) → ty ≡ kind_number from → slice_get c.flat.types ty ≡ Some (Whole from) → Fits kind o
       → (s : Progress) (ts : List Object) (used : InUse) (v : Value) → IsOperand c ty used s ts o v
       → is_converted o ty (kind_number kind) ≡ false → (z : ℤ) → seen s.store v ≡ number z → InRange from z → converted kind c.under.widths z ≡ Ok z
   stays_number made ty from kind (Var x) is shape fits s ts used v operand same z e range =
@@ -138,7 +138,7 @@ module _ (c : Context) (set : IsSetting c) where
       let number_same : y ≡ z = cc in
       set.same kind z (subst (λ z. InRange kind z) number_same fits)
 
-  number_of : (P : ℤ → Type 0) (x : Value) → IsNumber P x → IsNumber (λ z. (x ≡ number z) × P z) x
+  pub number_of : (P : ℤ → Type 0) (x : Value) → IsNumber P x → IsNumber (λ z. (x ≡ number z) × P z) x
   number_of P (number z) p = (refl, p)
   number_of P null p = p
   number_of P (pointer home leaf) p = p

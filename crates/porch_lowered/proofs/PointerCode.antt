@@ -165,3 +165,46 @@ module _ (c : Context) (set : IsSetting c) where
       sym (general_is d (Var t) b ty ty' (promoted ty') used (λ d a b. command.Step d (var_of a) b) (is_converted b ty' (promoted ty') && may_fail ty' (promoted ty')) (may_fail ty ty) (promotion_safe b ty'))
   steps_code Back op_ty d t b ty ty' label used =
       sym (general_is d (Var t) b ty ty' (promoted ty') used (λ d a b. command.Back d (var_of a) b) (is_converted b ty' (promoted ty') && may_fail ty' (promoted ty')) (may_fail ty ty) (promotion_safe b ty'))
+
+  no_more : (b : Bool) → (b && false) ≡ false
+  no_more true = refl
+  no_more false = refl
+
+  -- a number in front of a pointer
+  abbrev turned_code : (first second : Bool) → (left_fails right_fails : Bool) → (d t : ℕ) → (a : Operand) → (ty' right : ℕ) → InUse → List Command
+  turned_code first second left_fails right_fails d t a ty' right used =
+      let x = next_of c.start right used in
+      let y = next_of c.start ty' (used_if first used right) in
+      commands_if left_fails (used_commands (Var t))
+      ++ (commands_if right_fails (used_commands a)
+      ++ (commands_if first (command.Cast x (var_of a) ∷ [])
+      ++ (commands_if second (command.Cast y t ∷ [])
+      ++ command.Step d (var_of (operand_if second y (Var t))) (operand_if first x a) ∷ [])))
+
+  pub steps_of_code : (op_ty d t : ℕ) (a : Operand) (ty ty' label : ℕ) (used : InUse)
+      → stepping_code Forward d t a ty (promoted ty) used ≡ (operate c.start (operator.ForwardOf op_ty) d a ty (Var t) ty' used label).commands
+  steps_of_code op_ty d t a ty ty' label used =
+      let first = is_converted a ty (promoted ty) in
+      let second = is_converted (Var t) ty' ty' in
+      sym
+      (ap (λ g. turned_code first g (first && may_fail ty (promoted ty)) (not first && (g && may_fail ty' ty')) d t a ty' (promoted ty) used) (same_not_converted (Var t) ty')
+      ∙ ap (λ fails. turned_code first false (first && may_fail ty (promoted ty)) fails d t a ty' (promoted ty) used) (no_more (not first))
+      ∙ ap (λ fails. turned_code first false fails false d t a ty' (promoted ty) used) (promotion_safe a ty))
+
+  -- two pointers of a type
+  abbrev differing_code : (first second : Bool) → (d t u ty : ℕ) → InUse → List Command
+  differing_code first second d t u ty used =
+      let x = next_of c.start ty used in
+      let y = next_of c.start ty (used_if first used ty) in
+      commands_if (first && may_fail ty ty) (used_commands (Var u))
+      ++ (commands_if (not first && (second && may_fail ty ty)) (used_commands (Var t))
+      ++ (commands_if first (command.Cast x t ∷ [])
+      ++ (commands_if second (command.Cast y u ∷ [])
+      ++ command.Diff d (var_of (operand_if first x (Var t))) (var_of (operand_if second y (Var u))) ∷ [])))
+
+  pub differences_code : (op_ty d t u ty label : ℕ) (used : InUse)
+      → command.Diff d t u ∷ [] ≡ (operate c.start (operator.Difference op_ty) d (Var t) ty (Var u) ty used label).commands
+  differences_code op_ty d t u ty label used =
+      sym
+      (ap (λ f. differing_code f (is_converted (Var u) ty ty) d t u ty used) (same_not_converted (Var t) ty)
+      ∙ ap (λ g. differing_code false g d t u ty used) (same_not_converted (Var u) ty))
