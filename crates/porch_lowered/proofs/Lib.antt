@@ -66,3 +66,5 @@ pub mod Stores
 pub mod Assignments
 -- `+`, `-` and `~` of an operand
 pub mod Unary
+-- structs that are copied
+pub mod Copies

@@ -50,14 +50,14 @@ inside_changed change call s (of_call c v) x =
       }
     ]
 
-there_gives : (P : Store → Type 0) (v : Value) (r : Value → Result Store Act) → Gives P (r v) → Gives P (if_there v r)
+pub there_gives : (P : Store → Type 0) (v : Value) (r : Value → Result Store Act) → Gives P (r v) → Gives P (if_there v r)
 there_gives P (number z) r g = g
 there_gives P null r g = g
 there_gives P (pointer home leaf) r g = g
 there_gives P (past home leaf until) r g = g
 there_gives P indeterminate r g = tt
 
-place_gives : (P : Store → Type 0) (v : Value) (r : Home → ℕ → Result Store Act) → ((home : Home) (leaf : ℕ) → Gives P (r home leaf)) → Gives P (if_place v r)
+pub place_gives : (P : Store → Type 0) (v : Value) (r : Home → ℕ → Result Store Act) → ((home : Home) (leaf : ℕ) → Gives P (r home leaf)) → Gives P (if_place v r)
 place_gives P (number z) r g = tt
 place_gives P null r g = tt
 place_gives P (pointer home leaf) r g = g home leaf
@@ -77,10 +77,10 @@ store_seen s p v =
 
 module _ (c : Context) (set : IsSetting c) where
   -- where a store leads in the flat run
-  abbrev led_by : Progress → List Object → ℕ → Result Store Act → Next
+  abbrev pub led_by : Progress → List Object → ℕ → Result Store Act → Next
   led_by s ts place r = if_ok r (stored c.flat c.under (frame c place) c.callers (here c s ts place))
 
-  beside_ok : (s : Progress) (ts : List Object) (place : ℕ) (r : Result Store Act)
+  pub beside_ok : (s : Progress) (ts : List Object) (place : ℕ) (r : Result Store Act)
       → led_by s ts place (store_beside (ts ∷ c.more) r) ≡ if_ok r (λ to. Goes (here c (with_store s to) ts (place + 1)))
   beside_ok s ts place (Ok to) = refl
   beside_ok s ts place (Err a) = refl
