@@ -1,25 +1,24 @@
 -- What changes a typed store keeps it typed.
-use Rattle.std.proofs.Common.{◌≡◌, ◌<◌, ◌≤◌, ℕ, zero, suc, ◌+◌, ◌-◌, ◌*◌, ℤ, pos, negsuc, List, [], ◌∷◌, ◌++◌, length, take, drop, refl, sym, ap, subst, ◌∙◌, ◌⊎◌, inl, inr, arith, append-nil, length-append, Option, Some, None}
+use Rattle.std.proofs.Common.{◌≡◌, ◌<◌, ◌≤◌, ℕ, zero, suc, ◌+◌, ◌-◌, ℤ, pos, negsuc, List, [], ◌∷◌, ◌++◌, length, take, drop, refl, sym, ap, subst, ◌∙◌, ◌⊎◌, inl, inr, arith, append-nil, length-append, Option, Some, None}
 use Rattle.std.proofs.lemmas.Bool.Decides.{eqb_tells}
 use Rattle.std.proofs.lemmas.Int.{ints}
 use Rattle.std.proofs.lemmas.List.{length-take-le, length-drop}
-use Rattle.std.specs.Prelude.{⊤, slice_get, slice_set, slice_index_or, replicate, unsigned_abs, int_lt, if◌then◌else◌, ◌||◌, Bool, true, false, Result, Ok, Err}
+use Rattle.std.specs.Prelude.{slice_get, slice_set, slice_index_or, replicate, unsigned_abs, int_lt, if◌then◌else◌, ◌||◌, Bool, true, false, Ok, Err}
 use Rattle.porch_types.specs.declared.shapes.Ty.{Ty}
 use Rattle.porch_types.specs.declared.shapes.Ty.TheVariants.{Pointer}
-use Rattle.porch_types.specs.Leaves.{IsTypes, leaves_of}
+use Rattle.porch_types.specs.Leaves.{leaves_of}
 use Rattle.porch_types.specs.LeafTypes.{IsScalar, leaf_type}
-use Rattle.porch_types.specs.Rows.{IsRow, elements_of_root, IsSubobject}
-use Rattle.porch_values.specs.declared.acts.Act.{Act}
+use Rattle.porch_types.specs.Rows.{elements_of_root}
 use Rattle.porch_values.specs.declared.acts.Act.TheVariants as act
 use Rattle.porch_values.specs.declared.widths.Widths.{Widths}
-use Rattle.porch_objects.specs.Store.{Home, of_global, of_call, of_block, Value, number, null, pointer, past, indeterminate, Root, Object, Activation, HeapObject, Store, variables_in, block_in, object_at, seen, with_leaves, with_calls, changed_at, changed_calls, changed_blocks, changed, forgotten, entered, left, reached_one}
+use Rattle.porch_objects.specs.Store.{Home, of_global, of_call, of_block, Value, number, null, pointer, past, indeterminate, Root, Object, Activation, HeapObject, Store, variables_in, block_in, object_at, seen, with_leaves, with_calls, changed_at, changed_calls, changed_blocks, changed, entered, left}
 use Rattle.porch_objects.specs.Pointers.{with_block as with_new_block}
-use Rattle.porch_objects.specs.Pointers.{MOST_COUNT, if_there, if_place, used, store, copy, leaves_from, spliced, Allocation, block_of, allocate, without_block, release_at, release}
-use Rattle.porch_sound.specs.Typing.{Each, StoreTyping, one_root, root_of, Adds, Points, IsValueOf, IsTypedObject, AreTyped, IsTypedCall, IsTypedBlock, IsTypedStore}
-use Rattle.porch_sound.specs.Laws.{Gives, IsAlive, with_call, with_block, IsMade, KeepsTypes}
+use Rattle.porch_objects.specs.Pointers.{MOST_COUNT, store, copy, leaves_from, spliced, block_of, without_block, release_at}
+use Rattle.porch_sound.specs.Typing.{Each, StoreTyping, Adds, Points, IsValueOf, IsTypedObject, AreTyped, IsTypedCall, IsTypedBlock, IsTypedStore}
+use Rattle.porch_sound.specs.Laws.{Gives, with_call, with_block, IsMade, KeepsTypes}
 use Rattle.porch_sound.proofs.Lawful.{AreLawful}
-use Rattle.porch_sound.proofs.Objects.{leaf_typed, forgotten_typed, block_typed, set_typed, typed_in}
-use Rattle.porch_sound.proofs.Found.{some_is, there_gives, place_gives, alive, seen_typed, in_object, load_typed, member_typed}
+use Rattle.porch_sound.proofs.Objects.{leaf_typed, forgotten_typed, block_typed, set_typed}
+use Rattle.porch_sound.proofs.Found.{there_gives, place_gives, alive, seen_typed, in_object, load_typed, member_typed}
 use Rattle.porch_sound.proofs.Steps.{step_typed, difference_typed}
 use Rattle.porch_sound.proofs.Later.{get_last, index_last, calls_later, blocks_later, objects_later}
 

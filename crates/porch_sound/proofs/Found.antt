@@ -1,16 +1,16 @@
 -- What is found in a typed store and read of it has its type.
-use Rattle.std.proofs.Common.{◌≡◌, ◌<◌, ℕ, zero, suc, ◌+◌, List, [], ◌∷◌, length, refl, sym, ap, subst, ◌∙◌, inl, inr, arith, Option, Some, None}
+use Rattle.std.proofs.Common.{◌≡◌, ℕ, List, [], ◌∷◌, refl, sym, ap, subst, ◌∙◌, inl, inr, Option, Some, None}
 use Rattle.std.proofs.lemmas.Bool.Decides.{eqb_tells}
-use Rattle.std.specs.Prelude.{⊤, slice_get, slice_index_or, is_some, if◌then◌else◌, ◌&&◌, Bool, true, false, Result, Ok, Err}
+use Rattle.std.specs.Prelude.{slice_get, slice_index_or, is_some, if◌then◌else◌, ◌&&◌, Bool, true, false, Result}
 use Rattle.porch_types.specs.declared.shapes.Ty.{Ty}
 use Rattle.porch_types.specs.declared.shapes.Ty.TheVariants.{Pointer}
-use Rattle.porch_types.specs.LeafTypes.{IsScalar, leaf_type}
+use Rattle.porch_types.specs.LeafTypes.{IsScalar}
 use Rattle.porch_types.specs.Rows.{IsSubobject}
 use Rattle.porch_values.specs.declared.acts.Act.{Act}
 use Rattle.porch_values.specs.declared.widths.Widths.{Widths}
-use Rattle.porch_objects.specs.Store.{Home, of_global, of_call, of_block, Value, number, null, pointer, past, indeterminate, Root, Object, Activation, HeapObject, Store, one_of, variables_in, block_in, object_at, is_good, seen, leaf_of, leaf_at}
-use Rattle.porch_objects.specs.Pointers.{if_there, if_place, used, load, member}
-use Rattle.porch_sound.specs.Typing.{Each, StoreTyping, one_root, root_of, Points, IsValueOf, IsTypedObject, AreTyped, IsTypedCall, IsTypedBlock, IsTypedStore}
+use Rattle.porch_objects.specs.Store.{Home, of_global, of_call, of_block, Value, number, null, pointer, past, indeterminate, Root, Object, Activation, HeapObject, Store, variables_in, block_in, object_at, is_good, seen, leaf_of, leaf_at}
+use Rattle.porch_objects.specs.Pointers.{if_there, if_place, load, member}
+use Rattle.porch_sound.specs.Typing.{Each, StoreTyping, one_root, Points, IsValueOf, IsTypedObject, AreTyped, IsTypedCall, IsTypedBlock, IsTypedStore}
 use Rattle.porch_sound.specs.Laws.{Gives, IsAlive}
 use Rattle.porch_sound.proofs.Lawful.{AreLawful}
 use Rattle.porch_sound.proofs.Objects.{typed_in}

@@ -1,11 +1,11 @@
 -- What agrees with a store typing agrees with one that has grown.
-use Rattle.std.proofs.Common.{◌≡◌, ◌<◌, ℕ, zero, suc, ◌+◌, List, [], ◌∷◌, ◌++◌, length, refl, sym, ap, subst, ◌∙◌, arith, length-append, append_assoc, append-nil, Option, Some, None}
+use Rattle.std.proofs.Common.{◌≡◌, ◌<◌, ℕ, zero, suc, List, [], ◌∷◌, ◌++◌, length, refl, sym, ap, subst, ◌∙◌, arith, length-append, Option, Some, None}
 use Rattle.std.specs.Prelude.{slice_get, slice_index_or}
 use Rattle.porch_types.specs.declared.shapes.Ty.{Ty}
 use Rattle.porch_types.specs.LeafTypes.{leaf_type}
 use Rattle.porch_values.specs.declared.widths.Widths.{Widths}
-use Rattle.porch_objects.specs.Store.{Home, of_global, of_call, of_block, Value, number, null, pointer, past, indeterminate, Root, Object, Activation, HeapObject, Store}
-use Rattle.porch_sound.specs.Typing.{Each, StoreTyping, one_root, root_of, Adds, Points, IsValueOf, IsTypedObject, AreTyped, IsTypedCall, IsTypedBlock, IsTypedStore}
+use Rattle.porch_objects.specs.Store.{Home, of_global, of_call, of_block, Value, number, null, pointer, past, indeterminate, Root, Object, Activation, HeapObject}
+use Rattle.porch_sound.specs.Typing.{Each, StoreTyping, one_root, root_of, Adds, Points, IsValueOf, IsTypedObject, AreTyped, IsTypedCall, IsTypedBlock}
 
 -- the same element of a longer list
 pub get_longer : {A : Type 0} (xs more : List A) (i : ℕ) (x : A) → slice_get xs i ≡ Some x → slice_get (xs ++ more) i ≡ Some x

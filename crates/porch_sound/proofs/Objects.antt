@@ -1,18 +1,16 @@
 -- Typed objects: a leaf that is written, objects in lists, and objects that are new.
-use Rattle.std.proofs.Common.{◌≡◌, ◌≢◌, ◌<◌, ◌≤◌, ℕ, zero, suc, ◌+◌, ◌-◌, ◌*◌, List, [], ◌∷◌, ◌++◌, length, take, drop, map, refl, sym, ap, subst, ◌∙◌, inl, inr, arith, length-append, Option, Some, None}
-use Rattle.std.proofs.lemmas.Bool.Decides.{eqb_tells}
+use Rattle.std.proofs.Common.{◌≡◌, ◌<◌, ◌≤◌, ℕ, zero, suc, ◌+◌, List, [], ◌∷◌, length, map, refl, sym, ap, subst, ◌∙◌, arith, Option, Some, None}
 use Rattle.std.specs.Prelude.{slice_get, slice_set, slice_index_or, replicate, Bool, true, false, not, ◌&&◌, ◌||◌, pos, IsTrue}
 use Rattle.std.specs.List.{range_with_len}
 use Rattle.porch_types.specs.declared.shapes.Kind.{Kind}
 use Rattle.porch_types.specs.declared.shapes.Kind.TheVariants.{Char, UChar, Short, UShort, Int, UInt, Long, ULong}
 use Rattle.porch_types.specs.declared.shapes.Ty.{Ty}
 use Rattle.porch_types.specs.declared.shapes.Ty.TheVariants.{Whole, Pointer, Array, Struct}
-use Rattle.porch_types.specs.Leaves.{leaves_of}
 use Rattle.porch_types.specs.LeafTypes.{IsScalar, leaf_type}
-use Rattle.porch_values.specs.Integers.{in_range, is_value_of}
+use Rattle.porch_values.specs.Integers.{is_value_of}
 use Rattle.porch_values.specs.declared.widths.Widths.{Widths}
-use Rattle.porch_objects.specs.Store.{Value, number, null, pointer, past, indeterminate, Root, Object, fresh, zeroed, zero_of, leaves_in, one_of, with_leaves, changed_at}
-use Rattle.porch_objects.specs.Pointers.{MOST_COUNT, block_of, spliced}
+use Rattle.porch_objects.specs.Store.{Value, indeterminate, Root, Object, fresh, zeroed, zero_of, leaves_in, one_of, with_leaves}
+use Rattle.porch_objects.specs.Pointers.{MOST_COUNT, block_of}
 use Rattle.porch_sound.specs.Typing.{StoreTyping, IsValueOf, IsTypedObject, AreTyped}
 use Rattle.porch_sound.proofs.Lawful.{AreLawful}
 

@@ -1,26 +1,25 @@
 -- Pointers that are stepped stay in their type, and the number of elements between two pointers is a long in each width.
-use Rattle.std.proofs.Common.{◌≡◌, ◌<◌, ◌≤◌, ℕ, zero, suc, ◌+◌, ◌-◌, ◌*◌, ◌/◌, ◌+ℤ◌, ◌-ℤ◌, ◌≤ℤ◌, ℤ, pos, negsuc, List, [], ◌∷◌, length, refl, sym, ap, subst, ◌∙◌, arith, Option, Some, None}
-use Rattle.std.proofs.lemmas.Bool.Decides.{nat_tests, eqb_tells}
+use Rattle.std.proofs.Common.{◌≡◌, ◌<◌, ◌≤◌, ℕ, ◌+◌, ◌-◌, ◌*◌, ◌/◌, ◌+ℤ◌, ◌-ℤ◌, ◌≤ℤ◌, ℤ, pos, negsuc, List, refl, ap, ◌∙◌, arith, Option, Some, None}
+use Rattle.std.proofs.lemmas.Bool.Decides.{nat_tests}
 use Rattle.std.proofs.lemmas.Int.{ints}
 use Rattle.std.proofs.Math.Nat.{mul-div_cancel, le-mul_of_pos_right}
-use Rattle.std.specs.Prelude.{⊤, slice_get, nat_lt, nat_eq, if◌then◌else◌, not, ◌&&◌, ◌||◌, int_le, Bool, true, false, IsTrue, Result, Ok, Err}
+use Rattle.std.specs.Prelude.{⊤, slice_get, nat_lt, nat_eq, if◌then◌else◌, not, ◌&&◌, ◌||◌, int_le, Bool, true, false, IsTrue, Ok, Err}
 use Rattle.std.specs.Option.{option_map}
 use Rattle.porch_types.specs.declared.parts.Row.{Row}
 use Rattle.porch_types.specs.declared.shapes.Ty.{Ty}
 use Rattle.porch_types.specs.declared.shapes.Ty.TheVariants.{Pointer, Array}
 use Rattle.porch_types.specs.Leaves.{leaves_of, IsFormed}
 use Rattle.porch_types.specs.Rows.{IsRow, elements_of_root, elements_of_array, member_of_struct, IsRowAt}
-use Rattle.porch_values.specs.declared.acts.Act.{Act}
 use Rattle.porch_values.specs.declared.acts.Act.TheVariants as act
 use Rattle.porch_values.specs.declared.widths.Widths.{Widths}
 use Rattle.porch_values.specs.Integers.{is_value_of}
 use Rattle.porch_types.specs.declared.shapes.Kind.TheVariants.{Long}
 use Rattle.porch_objects.specs.Store.{Home, Value, number, null, pointer, past, indeterminate, Object, Store, object_at, seen}
-use Rattle.porch_objects.specs.Pointers.{MOST_COUNT, Position, row_in, position_at, position_of, is_shared, element_from, step_from, step, same_home, between, difference}
+use Rattle.porch_objects.specs.Pointers.{Position, row_in, position_of, is_shared, element_from, step_from, step, same_home, between, difference}
 use Rattle.porch_sound.specs.Typing.{StoreTyping, Points, IsValueOf, IsTypedStore}
-use Rattle.porch_sound.specs.Laws.{Gives, IsAlive}
+use Rattle.porch_sound.specs.Laws.{Gives}
 use Rattle.porch_sound.proofs.Lawful.{AreLawful}
-use Rattle.porch_sound.proofs.Found.{there_gives, alive, seen_typed, in_object}
+use Rattle.porch_sound.proofs.Found.{there_gives, alive}
 
 -- in a range
 range_true : (low high z : ℤ) → low ≤ℤ z → z ≤ℤ high → (int_le low z && int_le z high) ≡ true

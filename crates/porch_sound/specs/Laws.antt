@@ -1,5 +1,5 @@
 -- What is done with objects gives values of its type, and keeps the store typed.
-use Rattle.std.specs.Prelude.{ℕ, ℤ, ◌≡◌, ◌<◌, ⊤, IsTrue, Bool, List, [], ◌∷◌, ◌++◌, length, slice_get, Option, Some, Result, Ok, Err}
+use Rattle.std.specs.Prelude.{ℕ, ℤ, ◌≡◌, ◌<◌, ⊤, IsTrue, Bool, List, [], ◌∷◌, ◌++◌, length, slice_get, Some, Result, Ok, Err}
 use Rattle.porch_types.specs.declared.shapes.Kind.TheVariants.{Long}
 use Rattle.porch_types.specs.declared.shapes.Ty.{Ty}
 use Rattle.porch_types.specs.declared.shapes.Ty.TheVariants.{Pointer}
@@ -9,7 +9,7 @@ use Rattle.porch_types.specs.Rows.{IsSubobject}
 use Rattle.porch_values.specs.Integers.{is_value_of}
 use Rattle.porch_values.specs.declared.acts.Act.{Act}
 use Rattle.porch_values.specs.declared.widths.Widths.{Widths}
-use Rattle.porch_objects.specs.Store.{Home, Value, Root, Object, Store, object_at, seen, leaf_at, forgotten, entered, left, reached_one}
+use Rattle.porch_objects.specs.Store.{Home, Value, Root, Object, Store, object_at, seen, forgotten, entered, left, reached_one}
 use Rattle.porch_objects.specs.Pointers as pointers
 use Rattle.porch_objects.specs.Pointers.{Allocation}
 use Rattle.porch_sound.specs.Typing.{StoreTyping, root_of, Adds, IsValueOf, IsTypedObject, AreTyped, IsTypedStore}
