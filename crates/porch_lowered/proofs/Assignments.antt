@@ -1,11 +1,10 @@
 -- A variable of the source is assigned to: the code of the value writes it, as its last command.
-use Rattle.std.proofs.Common.{◌≡◌, ◌<◌, ◌≤◌, ℕ, ◌+◌, List, [], ◌∷◌, length, refl, sym, ap, subst, ◌∙◌, arith, Bool, true, false, Option, Some, None}
-use Rattle.std.specs.Prelude.{⊤, slice_get, slice_set, is_some, if◌then◌else◌, Result, Ok, Err}
+use Rattle.std.proofs.Common.{◌≡◌, ◌≤◌, ℕ, ◌+◌, List, ◌∷◌, length, refl, sym, ap, subst, ◌∙◌, arith, Option, Some, None}
+use Rattle.std.specs.Prelude.{slice_get, slice_set, is_some, if◌then◌else◌, Result, Ok}
 use Rattle.porch_types.specs.declared.shapes.Ty.TheVariants.{Pointer}
 use Rattle.porch_types.specs.LeafTypes.{IsScalar}
-use Rattle.porch_types.specs.Rows.{IsSubobject}
 use Rattle.porch_values.specs.declared.acts.Act.{Act}
-use Rattle.porch_objects.specs.Store.{Home, of_call, Value, number, null, pointer, past, indeterminate, Object, Store, object_at, seen, with_leaves, with_leaf_at}
+use Rattle.porch_objects.specs.Store.{of_call, Value, number, null, pointer, past, indeterminate, Object, Store, object_at, seen, with_leaves, with_leaf_at}
 use Rattle.porch_objects.specs.Pointers.{if_there, if_place, store}
 use Rattle.porch_objects.specs.Meaning.{Progress, with_store}
 use Rattle.porch_abstract.specs.Machine.{State, running, put}

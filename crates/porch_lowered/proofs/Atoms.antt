@@ -1,20 +1,15 @@
 -- Expressions that are operands where they stand: constants, and variables of the source, also where a conversion leaves them as
 -- they are.
-use Rattle.std.proofs.Common.{◌≡◌, ◌<◌, ℕ, zero, suc, ◌+◌, ℤ, pos, List, [], ◌∷◌, length, refl, sym, ap, subst, ◌∙◌, ◌⊎◌, inl, inr, arith, Bool, true, false, Option, Some, None}
-use Rattle.std.proofs.lemmas.Bool.Decides.{eqb_tells}
-use Rattle.std.specs.Prelude.{⊤, slice_get, slice_index_or, nat_eq, IsTrue, if◌then◌else◌, Result, Ok, Err}
+use Rattle.std.proofs.Common.{◌≡◌, ℕ, ℤ, pos, List, refl, sym, ap, subst, ◌∙◌, inr, Some}
+use Rattle.std.specs.Prelude.{slice_get, slice_index_or, IsTrue, Ok}
 use Rattle.porch_types.specs.declared.shapes.Kind.{Kind}
-use Rattle.porch_types.specs.declared.shapes.Ty.{Ty}
-use Rattle.porch_types.specs.declared.shapes.Ty.TheVariants.{Whole, Pointer}
+use Rattle.porch_types.specs.declared.shapes.Ty.TheVariants.{Pointer}
 use Rattle.porch_types.specs.Kinds.{kind_number}
 use Rattle.porch_types.specs.LeafTypes.{IsScalar, leaf_type}
-use Rattle.porch_values.specs.declared.acts.Act.{Act}
-use Rattle.porch_values.specs.declared.acts.Act.TheVariants.{Indeterminate}
 use Rattle.porch_values.specs.Integers.{in_range, converted}
-use Rattle.porch_objects.specs.Store.{of_call, Value, number, null, pointer, past, indeterminate, Root, Object, Store, object_at, seen, one_of, leaf_of, leaf_at}
-use Rattle.porch_objects.specs.Pointers.{if_there, if_number, load}
+use Rattle.porch_objects.specs.Store.{of_call, Value, number, null, pointer, past, indeterminate, Root, Object, seen, one_of, leaf_of, leaf_at}
+use Rattle.porch_objects.specs.Pointers.{if_there}
 use Rattle.porch_objects.specs.Meaning.{Progress}
-use Rattle.porch_flat.specs.declared.flat.Operand.{Operand}
 use Rattle.porch_flat.specs.declared.flat.Operand.TheVariants.{Var, Constant}
 use Rattle.porch_flat.specs.whole.Places.{type_at}
 use Rattle.porch_abstract.specs.whole.Machine as machine
@@ -22,20 +17,16 @@ use Rattle.porch_typed.specs.Mirror.{Expression, Place, Program}
 use Rattle.porch_typed.specs.Mirror as tree
 use Rattle.porch_mean.specs.Outcome.{Outcome, Went, Calls, and_then, with_result, use_number}
 use Rattle.porch_mean.specs.Operators.{as_value}
-use Rattle.porch_mean.specs.Expression.{value, load_at}
-use Rattle.porch_lowering.specs.Code.{InUse}
-use Rattle.porch_lowering.specs.Values.{Accepts, constant_of, variable_of, variable_read, variable_read_as, constant_operand, operand_or, only, only_in, atom_of}
+use Rattle.porch_mean.specs.Expression.{value}
 use Rattle.porch_sound.specs.Typing.{StoreTyping, one_root}
 use Rattle.porch_lowered.proofs.SameLeaf.{seen_twice}
 use Rattle.porch_lowered.proofs.States.{load_named}
 use Rattle.porch_lowered.proofs.Codes.{Context, IsOf, IsReady}
 use Rattle.porch_lowered.proofs.Holding.{IsSetting, kept_types}
-use Rattle.porch_lowered.proofs.Operands.{IsOperand}
 use Rattle.porch_lowered.proofs.Numbers.{narrow_fits}
 use Rattle.porch_lowered.proofs.Conversions.{IsNumber}
 use Rattle.porch_lowered.proofs.Operate.{InRange, is_number}
 use Rattle.porch_lowered.proofs.Places.{local_lives}
-use Rattle.porch_lowered.proofs.Forms.{numbers_follow}
 use Rattle.porch_lowered.proofs.Held.{use_now, InPlace}
 
 some_number : (a b : ℤ) → Some a ≡ Some b → a ≡ b
@@ -97,7 +88,7 @@ module _ (c : Context) (set : IsSetting c) where
           inr (record { declared = e; stands = refl }),
           of,
           ap (λ o. and_then o (λ v s. use_number v s (λ z s. with_result (as_value (converted kind c.under.widths z)) s (λ v s. Went v s)))) (read_is (kind_number kind) v s)
-          ∙ converts_itself kind (seen s.store w) s range (seen_twice s.store w),
+              ∙ converts_itself kind (seen s.store w) s range (seen_twice s.store w),
         )
 
     -- A constant expression: what it is evaluated to, and that it is a value of its type.

@@ -1,19 +1,19 @@
 -- What it means that code follows an evaluation, and how the code of parts follows one after another.
-use Rattle.std.proofs.Common.{◌≡◌, ◌<◌, ◌≤◌, ℕ, ◌+◌, List, [], ◌∷◌, ◌++◌, length, refl, ap, ◌∙◌, arith, length-append, max, Option, Some, None}
-use Rattle.std.specs.Prelude.{⊤, slice_index_or, slice_get}
-use Rattle.porch_objects.specs.Store.{Home, Value, Object, Store}
+use Rattle.std.proofs.Common.{◌≡◌, ◌<◌, ◌≤◌, ℕ, ◌+◌, List, [], ◌++◌, length, ◌∙◌, arith, length-append, max, Option, Some, None}
+use Rattle.std.specs.Prelude.{⊤, slice_index_or}
+use Rattle.porch_objects.specs.Store.{Value, Object}
 use Rattle.porch_objects.specs.Meaning.{Environment, Mark, Progress}
 use Rattle.porch_flat.specs.declared.whole.Command.{Command}
 use Rattle.porch_flat.specs.declared.whole.Flat.{Flat}
 use Rattle.porch_abstract.specs.Machine.{Frame, State, Next, put}
 use Rattle.porch_abstract.specs.whole.Machine.{var_type, becomes}
-use Rattle.porch_mean.specs.Outcome.{Outcome, Went, and_then}
+use Rattle.porch_mean.specs.Outcome.{Outcome, and_then}
 use Rattle.porch_lowering.specs.Code.{InUse, then_code, Coder}
 use Rattle.porch_sound.specs.Typing.{StoreTyping, Adds, IsValueOf, IsTypedStore}
 use Rattle.porch_lowered.specs.Beside.{IsGrounded, IsGroundedStore}
-use Rattle.porch_lowered.proofs.Typed.{counts, value_grounded, store_grounded, adds_nothing, adds_both}
-use Rattle.porch_lowered.proofs.Runs.{RunsTo, GoesOn, chain, stays}
-use Rattle.porch_lowered.proofs.Follows.{Follows, EndsIn, follows_from, follows_then}
+use Rattle.porch_lowered.proofs.Typed.{counts, value_grounded, store_grounded, adds_both}
+use Rattle.porch_lowered.proofs.Runs.{GoesOn, chain}
+use Rattle.porch_lowered.proofs.Follows.{Follows, follows_from, follows_then}
 use Rattle.porch_lowered.proofs.Temporaries.{IsInside, IsTemporary, temporary}
 use Rattle.porch_lowered.proofs.States.{Stands, front_stands, back_stands, frame_at, state_of}
 use Rattle.porch_lowered.proofs.States as states

@@ -1,14 +1,13 @@
 -- One command that makes a value, and a value that is converted where it has to be.
-use Rattle.std.proofs.Common.{◌≡◌, ◌<◌, ◌≤◌, ℕ, ◌+◌, ℤ, List, [], ◌∷◌, length, refl, sym, ap, subst, ◌∙◌, inl, inr, arith, Bool, true, false, Option, Some, None}
-use Rattle.std.specs.Prelude.{slice_get, IsTrue, if◌then◌else◌, Result, Ok, Err}
+use Rattle.std.proofs.Common.{◌≡◌, ◌<◌, ◌≤◌, ℕ, ◌+◌, ℤ, List, [], ◌∷◌, length, refl, sym, ap, subst, ◌∙◌, inl, arith, Bool, true, false, Some, None}
+use Rattle.std.specs.Prelude.{slice_get, Result, Ok, Err}
 use Rattle.porch_types.specs.declared.shapes.Kind.{Kind}
-use Rattle.porch_types.specs.declared.shapes.Ty.TheVariants.{Whole}
 use Rattle.porch_types.specs.Kinds.{kind_number}
 use Rattle.porch_values.specs.declared.acts.Act.{Act}
 use Rattle.porch_values.specs.Integers.{converted}
-use Rattle.porch_objects.specs.Store.{Value, number, null, pointer, past, indeterminate, Object, Store, seen}
-use Rattle.porch_objects.specs.Pointers.{if_there, if_number}
-use Rattle.porch_objects.specs.Meaning.{Mark, Progress, Met}
+use Rattle.porch_objects.specs.Store.{Value, number, null, pointer, past, indeterminate, Object, seen}
+use Rattle.porch_objects.specs.Pointers.{if_number}
+use Rattle.porch_objects.specs.Meaning.{Progress}
 use Rattle.porch_flat.specs.declared.flat.Operand.{Operand}
 use Rattle.porch_flat.specs.declared.flat.Operand.TheVariants.{Var, Constant}
 use Rattle.porch_flat.specs.declared.whole.Command.{Command}
@@ -16,24 +15,23 @@ use Rattle.porch_flat.specs.declared.whole.Command.TheVariants as command
 use Rattle.porch_flat.specs.Parts.{kind_of}
 use Rattle.porch_flat.specs.whole.Form.{form_of}
 use Rattle.porch_flat.specs.whole.Places.{type_at}
-use Rattle.porch_abstract.specs.Machine.{State, Next, Goes, Meets, put, counted, resulted}
+use Rattle.porch_abstract.specs.Machine.{State, Next, Goes, put, counted, resulted}
 use Rattle.porch_abstract.specs.whole.Machine.{if_ok, does, kind_in, variable_of}
-use Rattle.porch_mean.specs.Outcome.{Outcome, Went, and_then, with_result}
+use Rattle.porch_mean.specs.Outcome.{Went, with_result}
 use Rattle.porch_mean.specs.Operators.{as_value}
 use Rattle.porch_mean.specs.Operators as meaning
-use Rattle.porch_lowering.specs.Code.{InUse, and_one}
+use Rattle.porch_lowering.specs.Code.{InUse}
 use Rattle.porch_lowering.specs.Operators.{var_of, commands_if, used_if, operand_if, next_of}
-use Rattle.porch_sound.specs.Typing.{StoreTyping, Adds}
+use Rattle.porch_sound.specs.Typing.{StoreTyping}
 use Rattle.porch_sound.specs.Laws.{Gives}
 use Rattle.porch_lowered.proofs.Typed.{adds_nothing}
 use Rattle.porch_lowered.proofs.Runs.{stays}
-use Rattle.porch_lowered.proofs.Follows.{EndsIn, follows_from, follows_result, ends_from}
+use Rattle.porch_lowered.proofs.Follows.{follows_result}
 use Rattle.porch_lowered.proofs.Temporaries.{with_temporary}
-use Rattle.porch_lowered.proofs.SameLeaf.{seen_twice}
 use Rattle.porch_lowered.proofs.States.{Stands, IsQuiet, command_goes, command_meets}
-use Rattle.porch_lowered.proofs.Codes.{Context, first, commands, frame, here, goes_on, IsOf, On, Follow, IsUsed, Keeps, IsReady, MayGo, arrived, Arrives}
-use Rattle.porch_lowered.proofs.Holding.{IsSetting, put_temporary, ready_with, IsNext, next_is, next_keeps, next_holds, used_before, one_is_used}
-use Rattle.porch_lowered.proofs.Operands.{IsOperand, InTemporary, variable_is}
+use Rattle.porch_lowered.proofs.Codes.{Context, commands, frame, here, goes_on, IsOf, On, Follow, Keeps, IsReady, MayGo, Arrives}
+use Rattle.porch_lowered.proofs.Holding.{IsSetting, put_temporary, ready_with, IsNext, next_is, next_keeps, next_holds, one_is_used}
+use Rattle.porch_lowered.proofs.Operands.{IsOperand, variable_is}
 use Rattle.porch_lowered.proofs.Conversions.{convert}
 
 by_conversion : (r : Result ℤ Act) (go : Value → Next) → resulted r (λ z. go (number z)) ≡ if_ok (as_value r) go

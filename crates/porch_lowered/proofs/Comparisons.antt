@@ -1,23 +1,19 @@
 -- The commands of comparisons do what the operators do with converted integers. The left operand is a variable.
-use Rattle.std.proofs.Common.{◌≡◌, ◌≤◌, ℕ, ◌+◌, ℤ, pos, List, [], ◌∷◌, length, refl, sym, ap, subst, ◌∙◌, inl, inr, arith, Bool, true, false, Option, Some, None}
+use Rattle.std.proofs.Common.{◌≡◌, ℕ, ◌+◌, ℤ, pos, List, refl, ap, ◌∙◌, inr, arith, Bool, true, false, Option, Some}
 use Rattle.std.proofs.lemmas.Int.{ints}
-use Rattle.std.specs.Prelude.{⊤, slice_get, IsTrue, not, int_lt, int_le, if◌then◌else◌, Result, Ok, Err}
+use Rattle.std.specs.Prelude.{⊤, not, int_lt, int_le, Result, Ok}
 use Rattle.std.specs.Ordering.{int_eq}
 use Rattle.porch_types.specs.declared.shapes.Kind.{Kind}
 use Rattle.porch_types.specs.declared.shapes.Kind.TheVariants.{Int}
-use Rattle.porch_types.specs.declared.shapes.Ty.{Ty}
-use Rattle.porch_types.specs.declared.shapes.Ty.TheVariants.{Whole}
 use Rattle.porch_types.specs.Kinds.{kind_number}
 use Rattle.porch_values.specs.declared.acts.Act.{Act}
-use Rattle.porch_values.specs.Integers.{is_value_of}
-use Rattle.porch_objects.specs.Store.{Value, number, null, pointer, past, indeterminate, Object, Store, seen}
+use Rattle.porch_objects.specs.Store.{Value, number, null, pointer, past, indeterminate, Object, seen}
 use Rattle.porch_objects.specs.Pointers.{if_number}
 use Rattle.porch_objects.specs.Meaning.{Progress}
 use Rattle.porch_typed.specs.declared.typed.Comparison.{Comparison}
 use Rattle.porch_typed.specs.declared.typed.Comparison.TheVariants.{Less, Greater, LessEqual, GreaterEqual, Equal, NotEqual}
 use Rattle.porch_flat.specs.declared.flat.Operand.{Operand}
 use Rattle.porch_flat.specs.declared.flat.Operand.TheVariants.{Var, Constant}
-use Rattle.porch_flat.specs.declared.whole.Command.{Command}
 use Rattle.porch_flat.specs.declared.whole.Comparison.{Comparison as Order}
 use Rattle.porch_flat.specs.declared.whole.Comparison.TheVariants as order
 use Rattle.porch_flat.specs.whole.Form.{form_of}
@@ -32,12 +28,11 @@ use Rattle.porch_lowering.specs.Operators.{comparison}
 use Rattle.porch_sound.specs.Typing.{StoreTyping}
 use Rattle.porch_sound.specs.Laws.{Gives}
 use Rattle.porch_lowered.proofs.States.{IsQuiet}
-use Rattle.porch_lowered.proofs.Codes.{Context, frame, here, goes_on, IsOf, IsReady, MayGo}
+use Rattle.porch_lowered.proofs.Codes.{Context, frame, here, goes_on, IsOf, IsReady}
 use Rattle.porch_lowered.proofs.Holding.{IsSetting}
 use Rattle.porch_lowered.proofs.Operands.{IsOperand, number_is, operand_type}
-use Rattle.porch_lowered.proofs.Conversions.{IsNumber}
 use Rattle.porch_lowered.proofs.Numbers.{narrow_fits}
-use Rattle.porch_lowered.proofs.Operate.{Finishes, InRange}
+use Rattle.porch_lowered.proofs.Operate.{Finishes}
 
 -- what a comparison makes of two numbers
 abbrev pub tested : (ℤ → ℤ → Bool) → Value → Value → Result Value Act

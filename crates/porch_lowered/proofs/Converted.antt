@@ -1,13 +1,13 @@
 -- What is read through a pointer, a member that is a struct, and conversions, as codes.
-use Rattle.std.proofs.Common.{◌≡◌, ◌≤◌, ℕ, ◌+◌, ℤ, List, [], ◌∷◌, length, refl, sym, ap, subst, ◌∙◌, arith, Bool, true, false, Option, Some, None}
-use Rattle.std.specs.Prelude.{⊤, slice_get, nat_eq, if◌then◌else◌, Result, Ok, Err}
+use Rattle.std.proofs.Common.{◌≡◌, ℕ, refl, ap, ◌∙◌, Bool, false, Option, Some, None}
+use Rattle.std.specs.Prelude.{slice_get, nat_eq, Result, Ok}
 use Rattle.porch_types.specs.declared.shapes.Kind.{Kind}
-use Rattle.porch_types.specs.declared.shapes.Ty.TheVariants.{Whole, Pointer}
+use Rattle.porch_types.specs.declared.shapes.Ty.TheVariants.{Pointer}
 use Rattle.porch_types.specs.Kinds.{kind_number}
 use Rattle.porch_types.specs.LeafTypes.{IsScalar}
 use Rattle.porch_values.specs.declared.acts.Act.{Act}
 use Rattle.porch_values.specs.Integers.{converted}
-use Rattle.porch_objects.specs.Store.{Value, number, null, pointer, past, indeterminate, Object, Store, seen, leaf_at}
+use Rattle.porch_objects.specs.Store.{Value, number, null, pointer, past, indeterminate, Store, seen, leaf_at}
 use Rattle.porch_objects.specs.Pointers.{if_there, if_number, if_place, load}
 use Rattle.porch_objects.specs.Meaning.{Progress}
 use Rattle.porch_flat.specs.declared.flat.Operand.{Operand}
@@ -17,15 +17,15 @@ use Rattle.porch_typed.specs.Mirror.{Program}
 use Rattle.porch_mean.specs.Outcome.{Outcome, Went, and_then, with_result, use_number}
 use Rattle.porch_mean.specs.Operators.{as_value}
 use Rattle.porch_mean.specs.Expression.{load_at}
-use Rattle.porch_lowering.specs.Code.{InUse, and_one, Code, then_commands, Coder, hold}
-use Rattle.porch_lowering.specs.Operators.{next_of, var_of}
+use Rattle.porch_lowering.specs.Code.{InUse, and_one, Coder}
+use Rattle.porch_lowering.specs.Operators.{next_of}
 use Rattle.porch_lowering.specs.Expression.{read_code, convert_to}
 use Rattle.porch_sound.specs.Typing.{StoreTyping}
 use Rattle.porch_lowered.proofs.Temporaries.{same_number}
 use Rattle.porch_lowered.proofs.Follows.{follows_then_is}
 use Rattle.porch_lowered.proofs.Growing.{Grows}
-use Rattle.porch_lowered.proofs.Codes.{Context, here, IsOf, IsReady, Codes, Writes}
-use Rattle.porch_lowered.proofs.Holding.{IsSetting, codes_both, kept_types}
+use Rattle.porch_lowered.proofs.Codes.{Context, here, Codes, Writes}
+use Rattle.porch_lowered.proofs.Holding.{IsSetting, codes_both}
 use Rattle.porch_lowered.proofs.Conversions.{IsNumber}
 use Rattle.porch_lowered.proofs.Operate.{InRange, is_number}
 use Rattle.porch_lowered.proofs.Held.{IsStrict, InPlace}

@@ -1,6 +1,6 @@
 -- COPY: a struct is copied to where a pointer points.
-use Rattle.std.proofs.Common.{◌≡◌, ℕ, ◌+◌, List, [], ◌∷◌, refl, sym, ap, subst, ◌∙◌, Option, Some, None}
-use Rattle.std.specs.Prelude.{slice_get, unwrap_or, Result, Ok, Err}
+use Rattle.std.proofs.Common.{◌≡◌, ℕ, ◌+◌, List, ◌∷◌, refl, ap, subst, ◌∙◌, Some, None}
+use Rattle.std.specs.Prelude.{slice_get, unwrap_or, Result, Ok}
 use Rattle.porch_types.specs.declared.shapes.Ty.TheVariants.{Pointer}
 use Rattle.porch_types.specs.Leaves.{leaves_of}
 use Rattle.porch_values.specs.declared.acts.Act.{Act}
@@ -11,7 +11,7 @@ use Rattle.porch_flat.specs.declared.flat.Operand.TheVariants.{Var}
 use Rattle.porch_flat.specs.declared.whole.Command.TheVariants as command
 use Rattle.porch_flat.specs.whole.Form.{form_of}
 use Rattle.porch_flat.specs.whole.Places.{pointed, type_at}
-use Rattle.porch_abstract.specs.Machine.{Next, Goes}
+use Rattle.porch_abstract.specs.Machine.{Goes}
 use Rattle.porch_abstract.specs.whole.Machine.{if_ok, does, var_type, variable_of}
 use Rattle.porch_mean.specs.Outcome.{Went, with_result}
 use Rattle.porch_lowering.specs.Code.{InUse}

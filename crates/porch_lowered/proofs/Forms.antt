@@ -1,17 +1,16 @@
 -- Single forms: constants, values that are dropped, and what a value that is used leads to.
-use Rattle.std.proofs.Common.{◌≡◌, ◌≤◌, ℕ, ℤ, ◌+◌, List, [], ◌∷◌, length, refl, sym, ap, ◌∙◌, arith, Option, Some, None}
-use Rattle.std.specs.Prelude.{slice_get, Result, Ok, Err}
+use Rattle.std.proofs.Common.{◌≡◌, ◌≤◌, ℕ, ℤ, ◌+◌, List, length, refl, sym, ap, ◌∙◌, arith, Some, None}
+use Rattle.std.specs.Prelude.{Result, Ok}
 use Rattle.porch_values.specs.declared.acts.Act.{Act}
-use Rattle.porch_values.specs.declared.acts.Act.TheVariants.{Indeterminate}
 use Rattle.porch_objects.specs.Store.{Value, number, null, pointer, past, indeterminate, Object, Store, seen}
 use Rattle.porch_objects.specs.Pointers.{if_there, if_number}
 use Rattle.porch_objects.specs.Meaning.{Progress}
 use Rattle.porch_flat.specs.declared.flat.Operand.TheVariants.{Constant}
 use Rattle.porch_flat.specs.declared.whole.Command.TheVariants as command
 use Rattle.porch_flat.specs.whole.Places.{type_at}
-use Rattle.porch_abstract.specs.Machine.{State, put, determined}
+use Rattle.porch_abstract.specs.Machine.{put, determined}
 use Rattle.porch_abstract.specs.whole.Machine.{constant_of}
-use Rattle.porch_mean.specs.Outcome.{Outcome, Went, Undefined, and_then, with_result, with_number, done}
+use Rattle.porch_mean.specs.Outcome.{Outcome, Went, and_then, with_result, with_number, done}
 use Rattle.porch_lowering.specs.Code.{InUse, plain, Coder}
 use Rattle.porch_lowering.specs.Expression.{moved_to}
 use Rattle.porch_sound.specs.Typing.{StoreTyping}
@@ -21,7 +20,7 @@ use Rattle.porch_lowered.proofs.Follows.{follows_then}
 use Rattle.porch_lowered.proofs.SameLeaf.{seen_twice}
 use Rattle.porch_lowered.proofs.States.{Stands, IsThere, command_goes}
 use Rattle.porch_lowered.proofs.Codes.{Context, commands, here, goes_on, IsOf, Follow, IsReady, Arrives, Codes}
-use Rattle.porch_lowered.proofs.Held.{use_now, IsStrict}
+use Rattle.porch_lowered.proofs.Held.{IsStrict}
 
 -- a number that is used, and what a result leads to
 pub numbers_follow : (x : Value) (s : Progress) (r : ℤ → Result Value Act) (go : Value → Progress → Outcome)

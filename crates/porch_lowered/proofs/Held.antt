@@ -1,11 +1,10 @@
 -- A value that is held: in a temporary that its code goes to, or where it stands. What follows has it as an operand.
-use Rattle.std.proofs.Common.{◌≡◌, ◌<◌, ◌≤◌, ℕ, ◌+◌, List, [], ◌∷◌, length, refl, sym, ap, subst, ◌∙◌, ◌⊎◌, inl, inr, arith, Option, Some, None}
-use Rattle.std.specs.Prelude.{⊤, Result, Ok, Err}
-use Rattle.porch_objects.specs.Store.{Value, number, null, pointer, past, indeterminate, Object, Store, seen}
+use Rattle.std.proofs.Common.{◌≡◌, ◌≤◌, ℕ, ◌+◌, List, length, refl, sym, ap, subst, ◌∙◌, inl, arith, Option, Some, None}
+use Rattle.std.specs.Prelude.{⊤, Ok}
+use Rattle.porch_objects.specs.Store.{Value, Object, seen}
 use Rattle.porch_objects.specs.Pointers.{if_there}
 use Rattle.porch_objects.specs.Meaning.{Mark, Progress}
 use Rattle.porch_flat.specs.declared.flat.Operand.{Operand}
-use Rattle.porch_flat.specs.declared.flat.Operand.TheVariants.{Var, Constant}
 use Rattle.porch_abstract.specs.Machine.{State}
 use Rattle.porch_mean.specs.Outcome.{Outcome, Went, and_then, with_result}
 use Rattle.porch_lowering.specs.Code.{InUse, and_one, Coder, hold}
@@ -16,7 +15,7 @@ use Rattle.porch_lowered.proofs.Runs.{stays}
 use Rattle.porch_lowered.proofs.Follows.{follows_from, follows_then}
 use Rattle.porch_lowered.proofs.States.{Stands}
 use Rattle.porch_lowered.proofs.Growing.{Grows}
-use Rattle.porch_lowered.proofs.Codes.{Context, first, commands, here, IsOf, On, Follow, IsUsed, Keeps, IsReady, MayGo, Arrives, arrives_from, Writes}
+use Rattle.porch_lowered.proofs.Codes.{Context, commands, here, IsOf, On, Follow, IsUsed, Keeps, IsReady, Arrives, arrives_from, Writes}
 use Rattle.porch_lowered.proofs.Holding.{IsSetting, codes_hold, room_grown, room_next, used_before, one_is_used, temporary_type}
 use Rattle.porch_lowered.proofs.Operands.{IsOperand}
 

@@ -1,7 +1,7 @@
 -- A value that goes to a temporary is held there.
-use Rattle.std.proofs.Common.{◌≡◌, ◌<◌, ◌≤◌, ◌≢◌, ℕ, ◌+◌, ◌-◌, ℤ, List, [], ◌∷◌, length, refl, sym, ap, subst, ◌∙◌, arith, inl, inr, Bool, Option, Some, None}
+use Rattle.std.proofs.Common.{◌≡◌, ◌<◌, ◌≤◌, ◌≢◌, ℕ, ◌+◌, ◌-◌, ℤ, List, ◌∷◌, length, refl, sym, ap, ◌∙◌, arith, inl, inr, Option, Some, None}
 use Rattle.std.proofs.lemmas.Bool.Decides.{eqb_tells}
-use Rattle.std.specs.Prelude.{slice_get, slice_index_or, IsTrue, ◌||◌, Ok}
+use Rattle.std.specs.Prelude.{slice_get, IsTrue, ◌||◌, Ok}
 use Rattle.porch_types.specs.declared.shapes.Kind.{Kind}
 use Rattle.porch_types.specs.declared.shapes.Ty.TheVariants.{Whole}
 use Rattle.porch_types.specs.Kinds.{kind_number}
@@ -23,7 +23,7 @@ use Rattle.porch_lowered.proofs.ReadAlike.{seen_alike}
 use Rattle.porch_lowered.proofs.Typed.{counts, count_of}
 use Rattle.porch_lowered.proofs.Runs.{stays}
 use Rattle.porch_lowered.proofs.Follows.{follows_from}
-use Rattle.porch_lowered.proofs.Temporaries.{IsInside, innermost_is, with_temporary, temporary, temporary_read, temporary_written, other_temporary, same_temporary, still_temporary}
+use Rattle.porch_lowered.proofs.Temporaries.{innermost_is, with_temporary, temporary, temporary_read, temporary_written, other_temporary, same_temporary, still_temporary}
 use Rattle.porch_lowered.proofs.States.{Stands}
 use Rattle.porch_lowered.proofs.Growing.{Grows}
 use Rattle.porch_lowered.proofs.Codes.{Context, first, commands, frame, here, IsOf, On, Follow, IsUsed, Keeps, IsReady, grounded, value_is_grounded, MayGo, Codes, Writes}

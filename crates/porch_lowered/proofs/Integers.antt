@@ -1,39 +1,29 @@
 -- The commands of arithmetic, shifts and comparisons do what their operators do with converted values.
-use Rattle.std.proofs.Common.{◌≡◌, ◌<◌, ◌≤◌, ℕ, ◌+◌, ℤ, pos, List, [], ◌∷◌, length, refl, sym, ap, subst, ◌∙◌, ◌⊎◌, inl, inr, arith, Bool, true, false, Option, Some, None}
-use Rattle.std.specs.Prelude.{⊤, slice_get, IsTrue, not, int_lt, int_le, if◌then◌else◌, option_and_then, Result, Ok, Err}
-use Rattle.std.specs.Ordering.{int_eq}
+use Rattle.std.proofs.Common.{◌≡◌, ℕ, ℤ, List, refl, ap, ◌∙◌, inl, None}
+use Rattle.std.specs.Prelude.{⊤, Result, Ok, Err}
 use Rattle.porch_types.specs.declared.shapes.Kind.{Kind}
-use Rattle.porch_types.specs.declared.shapes.Kind.TheVariants.{Int}
-use Rattle.porch_types.specs.declared.shapes.Ty.{Ty}
-use Rattle.porch_types.specs.declared.shapes.Ty.TheVariants.{Whole}
 use Rattle.porch_types.specs.Kinds.{kind_number}
 use Rattle.porch_values.specs.declared.acts.Act.{Act}
-use Rattle.porch_values.specs.declared.acts.Act.TheVariants.{Indeterminate}
 use Rattle.porch_values.specs.declared.acts.Op.{Op}
 use Rattle.porch_values.specs.declared.acts.Op.TheVariants as op
-use Rattle.porch_values.specs.Integers.{applied, is_value_of}
-use Rattle.porch_objects.specs.Store.{Value, number, null, pointer, past, indeterminate, Object, Store, seen}
+use Rattle.porch_values.specs.Integers.{applied}
+use Rattle.porch_objects.specs.Store.{Value, number, null, pointer, past, indeterminate, Object, seen}
 use Rattle.porch_objects.specs.Pointers.{if_number}
 use Rattle.porch_objects.specs.Meaning.{Progress}
 use Rattle.porch_flat.specs.declared.flat.Operand.{Operand}
-use Rattle.porch_flat.specs.declared.flat.Operand.TheVariants.{Var, Constant}
-use Rattle.porch_flat.specs.declared.whole.Command.{Command}
 use Rattle.porch_flat.specs.Parts.{kind_of}
 use Rattle.porch_flat.specs.whole.Form as form
 use Rattle.porch_flat.specs.whole.Form.{form_of}
 use Rattle.porch_flat.specs.whole.Places.{type_at}
-use Rattle.porch_abstract.specs.Machine.{Next, Goes, put, counted, resulted}
+use Rattle.porch_abstract.specs.Machine.{Next, counted, resulted}
 use Rattle.porch_abstract.specs.whole.Machine.{if_ok, does, kind_in, operand_of}
 use Rattle.porch_mean.specs.Operators.{as_value}
-use Rattle.porch_lowering.specs.Code.{InUse}
 use Rattle.porch_lowering.specs.Operators.{arithmetic}
 use Rattle.porch_sound.specs.Typing.{StoreTyping}
-use Rattle.porch_sound.specs.Laws.{Gives, KeepsTypes}
-use Rattle.porch_lowered.proofs.States.{IsQuiet}
-use Rattle.porch_lowered.proofs.Codes.{Context, frame, here, goes_on, IsOf, IsReady, MayGo}
+use Rattle.porch_sound.specs.Laws.{Gives}
+use Rattle.porch_lowered.proofs.Codes.{Context, frame, here, goes_on, IsOf}
 use Rattle.porch_lowered.proofs.Holding.{IsSetting}
-use Rattle.porch_lowered.proofs.Operands.{IsOperand, number_is}
-use Rattle.porch_lowered.proofs.Conversions.{IsNumber}
+use Rattle.porch_lowered.proofs.Operands.{number_is}
 use Rattle.porch_lowered.proofs.Operate.{Finishes, InRange}
 
 -- what an operator makes of two numbers

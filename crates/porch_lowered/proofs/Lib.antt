@@ -68,3 +68,5 @@ pub mod Assignments
 pub mod Unary
 -- structs that are copied
 pub mod Copies
+-- what has no value: checkpoints, and declarations that are reached
+pub mod Valueless

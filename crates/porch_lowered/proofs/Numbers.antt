@@ -1,14 +1,12 @@
 -- Integers that are converted before an operator: where they are in the range of their kind already, nothing is done, and which
 -- conversions meet no act.
-use Rattle.std.proofs.Common.{◌≡◌, ◌<◌, ◌≤◌, ℕ, zero, suc, ◌+◌, ℤ, pos, negsuc, ◌≤ℤ◌, refl, sym, ap, subst, ◌∙◌, arith, Bool, true, false, Option, Some, None}
+use Rattle.std.proofs.Common.{◌≡◌, ℤ, pos, negsuc, ◌≤ℤ◌, refl, arith, Bool, true, false}
 use Rattle.std.proofs.lemmas.Bool.{and_parts}
 use Rattle.std.proofs.lemmas.Int.{ints}
-use Rattle.std.specs.Prelude.{IsTrue, int_le, ◌&&◌, ◌||◌, not, if◌then◌else◌, Result, Ok, Err}
+use Rattle.std.specs.Prelude.{IsTrue, int_le, ◌&&◌, ◌||◌, not, Ok}
 use Rattle.porch_types.specs.declared.shapes.Kind.{Kind}
 use Rattle.porch_types.specs.declared.shapes.Kind.TheVariants.{Char, UChar, Short, UShort, Int, UInt, Long, ULong}
 use Rattle.porch_types.specs.Kinds.{kind_number}
-use Rattle.porch_values.specs.declared.acts.Act.{Act}
-use Rattle.porch_values.specs.declared.acts.Act.TheVariants.{Indeterminate}
 use Rattle.porch_values.specs.declared.widths.Widths.{Widths}
 use Rattle.porch_values.specs.Integers.{in_range, is_value_of, converted}
 use Rattle.porch_lowering.specs.Operators.{is_small, may_fail}

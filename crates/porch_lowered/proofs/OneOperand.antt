@@ -1,6 +1,6 @@
 -- Forms with one operand, which is held, and one command that makes the value of it.
-use Rattle.std.proofs.Common.{◌≡◌, ◌≤◌, ℕ, ◌+◌, ℤ, List, [], ◌∷◌, ◌++◌, length, refl, sym, ap, ◌∙◌, arith, length-append, Option, Some, None}
-use Rattle.std.specs.Prelude.{⊤, slice_get, Result, Ok, Err}
+use Rattle.std.proofs.Common.{◌≡◌, ◌≤◌, ℕ, ◌+◌, List, [], ◌∷◌, ◌++◌, length, refl, ap, ◌∙◌, arith, length-append, Option, Some, None}
+use Rattle.std.specs.Prelude.{⊤, slice_get, Result, Ok}
 use Rattle.porch_types.specs.declared.shapes.Kind.{Kind}
 use Rattle.porch_types.specs.declared.shapes.Ty.TheVariants.{Pointer}
 use Rattle.porch_types.specs.Kinds.{kind_number}
@@ -20,7 +20,7 @@ use Rattle.porch_abstract.specs.Machine.{Goes, put}
 use Rattle.porch_abstract.specs.whole.Machine.{if_ok, does, variable_of}
 use Rattle.porch_mean.specs.Outcome.{Outcome, Went, and_then, with_result}
 use Rattle.porch_mean.specs.Operators.{as_value}
-use Rattle.porch_lowering.specs.Code.{InUse, and_one, Code, then_commands, Coder, hold}
+use Rattle.porch_lowering.specs.Code.{InUse, Code, then_commands, Coder, hold}
 use Rattle.porch_lowering.specs.Operators.{next_of, var_of}
 use Rattle.porch_sound.specs.Typing.{StoreTyping}
 use Rattle.porch_sound.specs.Laws.{Gives}
@@ -30,9 +30,9 @@ use Rattle.porch_lowered.proofs.Typed.{counts}
 use Rattle.porch_lowered.proofs.SameLeaf.{seen_twice}
 use Rattle.porch_lowered.proofs.States.{Stands, front_stands, back_stands, IsQuiet}
 use Rattle.porch_lowered.proofs.Growing.{Grows}
-use Rattle.porch_lowered.proofs.Codes.{Context, commands, frame, here, goes_on, IsOf, Follow, IsReady, grounded, value_is_grounded, MayGo, Arrives, Codes, Writes}
-use Rattle.porch_lowered.proofs.Holding.{IsSetting, kept_types, codes_both}
-use Rattle.porch_lowered.proofs.Operands.{IsOperand, variable_is, operand_type}
+use Rattle.porch_lowered.proofs.Codes.{Context, commands, frame, here, goes_on, IsOf, Follow, IsReady, grounded, value_is_grounded, MayGo, Arrives, Writes}
+use Rattle.porch_lowered.proofs.Holding.{IsSetting, kept_types}
+use Rattle.porch_lowered.proofs.Operands.{variable_is, operand_type}
 use Rattle.porch_lowered.proofs.Held.{IsStrict, InPlace, hold_then, from_held}
 use Rattle.porch_lowered.proofs.Commands.{command_follows, cast_does, cast_gives}
 

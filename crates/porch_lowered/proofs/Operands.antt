@@ -1,24 +1,23 @@
 -- Operands: a value that is held in a temporary, one that stands in a variable of the source, and a constant.
-use Rattle.std.proofs.Common.{◌≡◌, ◌<◌, ◌≤◌, ◌≢◌, ℕ, zero, suc, ◌+◌, ℤ, List, [], ◌∷◌, length, refl, sym, ap, subst, ◌∙◌, ◌⊎◌, inl, inr, arith, Option, Some, None}
-use Rattle.std.specs.Prelude.{⊤, slice_get, slice_index, slice_index_or, Result, Ok, Err}
+use Rattle.std.proofs.Common.{◌≡◌, ◌<◌, ℕ, zero, suc, ◌+◌, ℤ, List, [], ◌∷◌, length, refl, sym, ap, ◌∙◌, ◌⊎◌, inl, inr, arith, Option, Some, None}
+use Rattle.std.specs.Prelude.{slice_get, Result}
 use Rattle.porch_types.specs.declared.shapes.Kind.{Kind}
 use Rattle.porch_types.specs.declared.shapes.Ty.{Ty}
 use Rattle.porch_types.specs.declared.shapes.Ty.TheVariants.{Whole, Pointer, Array, Struct}
 use Rattle.porch_values.specs.declared.acts.Act.{Act}
 use Rattle.porch_values.specs.declared.acts.Act.TheVariants.{Indeterminate}
-use Rattle.porch_objects.specs.Store.{of_call, Value, number, null, pointer, past, indeterminate, Object, Store, seen, leaf_at, with_leaf_at, variable_home}
+use Rattle.porch_objects.specs.Store.{of_call, Value, number, null, pointer, past, indeterminate, Object, Store, seen, leaf_at, variable_home}
 use Rattle.porch_objects.specs.Pointers.{if_there}
-use Rattle.porch_objects.specs.Meaning.{Mark, Progress, Met}
+use Rattle.porch_objects.specs.Meaning.{Progress, Met}
 use Rattle.porch_flat.specs.declared.flat.Operand.{Operand}
 use Rattle.porch_flat.specs.declared.flat.Operand.TheVariants.{Var, Constant}
-use Rattle.porch_flat.specs.declared.whole.Command.{Command}
 use Rattle.porch_flat.specs.declared.whole.Command.TheVariants as command
 use Rattle.porch_flat.specs.whole.Places.{type_at}
-use Rattle.porch_abstract.specs.Machine.{State, Next, Goes, Meets, with_store, determined, put}
+use Rattle.porch_abstract.specs.Machine.{Next, Goes, with_store, determined, put}
 use Rattle.porch_abstract.specs.whole.Machine.{operand_of, variable_of, constant_of}
-use Rattle.porch_mean.specs.Outcome.{Outcome, Went, Undefined, with_result}
+use Rattle.porch_mean.specs.Outcome.{Went, with_result}
 use Rattle.porch_lowering.specs.Code.{InUse}
-use Rattle.porch_lowering.specs.Operators.{used_commands, commands_if}
+use Rattle.porch_lowering.specs.Operators.{used_commands}
 use Rattle.porch_sound.specs.Typing.{StoreTyping}
 use Rattle.porch_lowered.specs.Beside.{beside, IsDeclared}
 use Rattle.porch_lowered.proofs.Typed.{counts, count_of}
@@ -27,7 +26,7 @@ use Rattle.porch_lowered.proofs.Follows.{EndsIn}
 use Rattle.porch_lowered.proofs.SameLeaf.{same_leaf, seen_or_not}
 use Rattle.porch_lowered.proofs.Temporaries.{temporary}
 use Rattle.porch_lowered.proofs.States.{Stands, variable_value, command_goes, command_meets}
-use Rattle.porch_lowered.proofs.Codes.{Context, first, commands, frame, here, IsOf, On, Follow, IsUsed, Keeps, IsReady, grounded, MayGo}
+use Rattle.porch_lowered.proofs.Codes.{Context, first, commands, here, IsOf, On, Follow, IsUsed, Keeps, IsReady, grounded, MayGo}
 use Rattle.porch_lowered.proofs.Holding.{IsSetting, temporary_value}
 
 pub get_within : (xs : List ℕ) (i x : ℕ) → slice_get xs i ≡ Some x → i < length xs

@@ -1,49 +1,37 @@
 -- An operator on two integers: the operands are used and converted as its code says, and its command works on them.
-use Rattle.std.proofs.Common.{◌≡◌, ◌<◌, ◌≤◌, ℕ, ◌+◌, ℤ, pos, List, [], ◌∷◌, ◌++◌, length, length-append, refl, sym, ap, subst, ◌∙◌, ◌⊎◌, inl, inr, arith, Bool, true, false, Option, Some, None}
+use Rattle.std.proofs.Common.{◌≡◌, ◌<◌, ◌≤◌, ℕ, ◌+◌, ℤ, List, [], ◌∷◌, ◌++◌, length, length-append, refl, sym, ap, subst, ◌∙◌, inl, inr, arith, Bool, true, false, Some, None}
 use Rattle.std.proofs.lemmas.Bool.Decides.{eqb_tells}
-use Rattle.std.specs.Prelude.{⊤, slice_get, nat_eq, not, ◌&&◌, int_lt, IsTrue, if◌then◌else◌, Result, Ok, Err}
-use Rattle.std.specs.Ordering.{int_eq}
+use Rattle.std.specs.Prelude.{⊤, slice_get, not, ◌&&◌, IsTrue, Result, Ok, Err}
 use Rattle.porch_types.specs.declared.shapes.Kind.{Kind}
-use Rattle.porch_types.specs.declared.shapes.Kind.TheVariants.{Int}
-use Rattle.porch_types.specs.declared.shapes.Ty.{Ty}
-use Rattle.porch_types.specs.declared.shapes.Ty.TheVariants.{Whole, Pointer}
+use Rattle.porch_types.specs.declared.shapes.Ty.TheVariants.{Whole}
 use Rattle.porch_types.specs.Kinds.{kind_number}
 use Rattle.porch_values.specs.declared.acts.Act.{Act}
 use Rattle.porch_values.specs.declared.acts.Act.TheVariants.{Indeterminate}
-use Rattle.porch_values.specs.declared.acts.Op.{Op}
-use Rattle.porch_values.specs.declared.acts.Op.TheVariants as op
-use Rattle.porch_values.specs.Integers.{applied, converted, is_value_of}
-use Rattle.porch_objects.specs.Store.{Value, number, null, pointer, past, indeterminate, Object, Store, seen}
-use Rattle.porch_objects.specs.Pointers.{if_there, if_number}
-use Rattle.porch_objects.specs.Meaning.{Mark, Progress}
+use Rattle.porch_values.specs.Integers.{converted, is_value_of}
+use Rattle.porch_objects.specs.Store.{Value, number, null, pointer, past, indeterminate, Object, seen}
+use Rattle.porch_objects.specs.Meaning.{Progress}
 use Rattle.porch_flat.specs.declared.flat.Operand.{Operand}
 use Rattle.porch_flat.specs.declared.flat.Operand.TheVariants.{Var, Constant}
 use Rattle.porch_flat.specs.declared.whole.Command.{Command}
 use Rattle.porch_flat.specs.declared.whole.Command.TheVariants as command
-use Rattle.porch_flat.specs.Parts.{kind_of}
-use Rattle.porch_flat.specs.whole.Form as form
 use Rattle.porch_flat.specs.whole.Form.{form_of}
-use Rattle.porch_flat.specs.whole.Places.{type_at}
-use Rattle.porch_abstract.specs.Machine.{State, Next, Goes, Meets, put, counted, resulted}
-use Rattle.porch_abstract.specs.whole.Machine.{if_ok, does, kind_in, operand_of, constant_of}
-use Rattle.porch_mean.specs.Outcome.{Outcome, Went, with_result}
-use Rattle.porch_mean.specs.Operators.{as_value}
-use Rattle.porch_mean.specs.Operators as meaning
-use Rattle.porch_lowering.specs.Code.{InUse, and_one}
-use Rattle.porch_lowering.specs.Operators.{var_of, commands_if, used_if, used_commands, operand_if, next_of, is_converted, may_fail, arithmetic}
+use Rattle.porch_abstract.specs.Machine.{Goes, put}
+use Rattle.porch_abstract.specs.whole.Machine.{if_ok, does, constant_of}
+use Rattle.porch_mean.specs.Outcome.{Went, with_result}
+use Rattle.porch_lowering.specs.Code.{InUse}
+use Rattle.porch_lowering.specs.Operators.{var_of, commands_if, used_if, used_commands, operand_if, next_of, is_converted, may_fail}
 use Rattle.porch_sound.specs.Typing.{StoreTyping}
 use Rattle.porch_sound.specs.Laws.{Gives}
 use Rattle.porch_lowered.proofs.Typed.{adds_nothing}
 use Rattle.porch_lowered.proofs.Runs.{stays}
 use Rattle.porch_lowered.proofs.Follows.{follows_from}
 use Rattle.porch_lowered.proofs.States.{Stands, front_stands, back_stands, IsQuiet}
-use Rattle.porch_lowered.proofs.SameLeaf.{seen_twice}
-use Rattle.porch_lowered.proofs.Codes.{Context, first, commands, frame, here, goes_on, IsOf, On, Follow, IsUsed, Keeps, IsReady, MayGo, then_on, Arrives, arrives_from}
+use Rattle.porch_lowered.proofs.Codes.{Context, commands, frame, here, IsOf, On, Follow, IsUsed, Keeps, IsReady, MayGo, Arrives, arrives_from}
 use Rattle.porch_lowered.proofs.Holding.{IsSetting, used_before, one_is_used, one_at_least, kept_types}
-use Rattle.porch_lowered.proofs.Operands.{IsOperand, operand_stays, number_is, use_follows, when_there}
-use Rattle.porch_lowered.proofs.Conversions.{guard, convert, IsNumber, commands_give, source_gives, commands_do}
-use Rattle.porch_lowered.proofs.Commands.{command_follows, convert_follows, IsConverted}
-use Rattle.porch_lowered.proofs.Numbers.{narrow_fits, converts_safely}
+use Rattle.porch_lowered.proofs.Operands.{IsOperand, operand_stays, use_follows}
+use Rattle.porch_lowered.proofs.Conversions.{guard, IsNumber, source_gives, commands_do}
+use Rattle.porch_lowered.proofs.Commands.{command_follows, convert_follows}
+use Rattle.porch_lowered.proofs.Numbers.{converts_safely}
 
 whole_is : (a b : Kind) → Some (Whole a) ≡ Some (Whole b) → a ≡ b
 whole_is a b e = cc
@@ -116,9 +104,10 @@ module _ (c : Context) (set : IsSetting c) where
         | inr w ↦ (let wrong : true ≡ false = rw w.0 at same in cc)
       ]
   same_kind made s ts used ty from kind (Constant z) v shape is fits operand of same =
-      let value : number z ≡ v = sym (ap (λ shape. constant_of shape z) shape) ∙ operand in
-      (ap (λ shape. constant_of shape z) (set.kinds kind) ∙ value,
-      subst (λ v. IsOf c made (kind_number kind) v) value (kind, set.kinds kind, fits))
+      let value : number z ≡ v = sym (ap (λ shape. constant_of shape z) shape) ∙ operand in (
+        ap (λ shape. constant_of shape z) (set.kinds kind) ∙ value,
+        subst (λ v. IsOf c made (kind_number kind) v) value (kind, set.kinds kind, fits),
+      )
 
   pub is_variable : (ty to : ℕ) (o : Operand) → is_converted o ty to ≡ true → (x : ℕ) × (o ≡ Var x)
   is_variable ty to (Var x) e = (x, refl)

@@ -1,16 +1,13 @@
 -- The code of an operator follows what it makes of two operands that are there.
-use Rattle.std.proofs.Common.{◌≡◌, ◌≤◌, ℕ, ◌+◌, ℤ, pos, List, [], ◌∷◌, ◌++◌, length, length-append, refl, sym, ap, subst, ◌∙◌, inl, inr, arith, Bool, true, false, Option, Some, None}
-use Rattle.std.proofs.lemmas.Bool.Decides.{eqb_tells}
-use Rattle.std.specs.Prelude.{⊤, slice_get, nat_eq, not, ◌&&◌, ◌-ℤ◌, IsTrue, if◌then◌else◌, Result, Ok, Err}
+use Rattle.std.proofs.Common.{◌≡◌, ◌≤◌, ℕ, ◌+◌, ℤ, List, [], ◌∷◌, ◌++◌, length, refl, sym, ap, subst, ◌∙◌, false, Some}
+use Rattle.std.specs.Prelude.{⊤, slice_get, not, ◌&&◌, IsTrue}
 use Rattle.porch_types.specs.declared.shapes.Kind.{Kind}
 use Rattle.porch_types.specs.declared.shapes.Kind.TheVariants.{Char, UChar, Short, UShort, Int, UInt, Long, ULong}
-use Rattle.porch_types.specs.declared.shapes.Ty.{Ty}
-use Rattle.porch_types.specs.declared.shapes.Ty.TheVariants.{Whole, Pointer}
+use Rattle.porch_types.specs.declared.shapes.Ty.TheVariants.{Whole}
 use Rattle.porch_types.specs.Kinds.{kind_number}
-use Rattle.porch_values.specs.declared.acts.Act.{Act}
 use Rattle.porch_values.specs.declared.acts.Op.{Op}
 use Rattle.porch_values.specs.Integers.{applied, converted}
-use Rattle.porch_objects.specs.Store.{Value, number, null, pointer, past, indeterminate, Object, Store, seen}
+use Rattle.porch_objects.specs.Store.{Value, number, null, pointer, past, indeterminate, Object, seen}
 use Rattle.porch_objects.specs.Pointers.{if_there, if_number}
 use Rattle.porch_objects.specs.Meaning.{Progress}
 use Rattle.porch_flat.specs.declared.flat.Operand.{Operand}

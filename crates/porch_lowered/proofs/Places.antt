@@ -4,12 +4,11 @@ use Rattle.std.specs.Prelude.{slice_get, is_some, unwrap_or, if◌then◌else◌
 use Rattle.porch_values.specs.declared.acts.Act.{Act}
 use Rattle.porch_objects.specs.Store.{Home, of_global, of_call, Value, pointer, indeterminate, Object, Store, variables_in, object_at}
 use Rattle.porch_objects.specs.Pointers.{if_there, if_place, member}
-use Rattle.porch_objects.specs.Meaning.{Environment, Progress}
+use Rattle.porch_objects.specs.Meaning.{Progress}
 use Rattle.porch_flat.specs.declared.whole.Command.{Command}
 use Rattle.porch_flat.specs.declared.whole.Command.TheVariants as command
-use Rattle.porch_flat.specs.declared.whole.Flat.{Flat}
 use Rattle.porch_flat.specs.whole.Form.{form_of}
-use Rattle.porch_abstract.specs.Machine.{Frame, State, Goes, put}
+use Rattle.porch_abstract.specs.Machine.{Goes, put}
 use Rattle.porch_abstract.specs.whole.Machine.{does}
 use Rattle.porch_mean.specs.Outcome.{Went, and_then}
 use Rattle.porch_mean.specs.Expression.{member_at}
@@ -17,9 +16,9 @@ use Rattle.porch_lowering.specs.Code.{plain, Coder}
 use Rattle.porch_lowered.specs.Beside.{IsDeclared, IsGroundedStore}
 use Rattle.porch_lowered.proofs.Temporaries.{IsInside, innermost_is, same_number}
 use Rattle.porch_lowered.proofs.States.{IsQuiet, command_goes}
-use Rattle.porch_sound.specs.Typing.{StoreTyping, root_of, Points, IsValueOf}
-use Rattle.porch_lowered.proofs.Typed.{counts, adds_nothing, home_declared}
-use Rattle.porch_lowered.proofs.Codes.{Context, commands, frame, here, IsOf, IsReady, grounded, Writes}
+use Rattle.porch_sound.specs.Typing.{StoreTyping}
+use Rattle.porch_lowered.proofs.Typed.{counts, adds_nothing}
+use Rattle.porch_lowered.proofs.Codes.{Context, frame, here, IsOf, IsReady, grounded, Writes}
 use Rattle.porch_lowered.proofs.Operands.{is_declared}
 use Rattle.porch_lowered.proofs.Holding.{IsSetting}
 

@@ -1,16 +1,13 @@
 -- The code of operators that step a pointer, or take the difference of two.
-use Rattle.std.proofs.Common.{◌≡◌, ◌<◌, ◌≤◌, ℕ, ◌+◌, ℤ, pos, List, [], ◌∷◌, ◌++◌, length, length-append, refl, sym, ap, subst, ◌∙◌, inl, inr, arith, Bool, true, false, Option, Some, None}
+use Rattle.std.proofs.Common.{◌≡◌, ◌<◌, ◌≤◌, ℕ, ◌+◌, ℤ, List, [], ◌∷◌, ◌++◌, length, length-append, refl, sym, ap, subst, ◌∙◌, inl, inr, arith, Bool, true, false, Some}
 use Rattle.std.proofs.lemmas.Bool.Decides.{eqb_tells}
-use Rattle.std.specs.Prelude.{⊤, slice_get, nat_eq, not, ◌&&◌, ◌-ℤ◌, IsTrue, if◌then◌else◌, Result, Ok, Err}
+use Rattle.std.specs.Prelude.{slice_get, not, ◌&&◌, if◌then◌else◌, Result, Ok}
 use Rattle.porch_types.specs.declared.shapes.Kind.{Kind}
-use Rattle.porch_types.specs.declared.shapes.Ty.{Ty}
 use Rattle.porch_types.specs.declared.shapes.Ty.TheVariants.{Whole, Pointer}
 use Rattle.porch_types.specs.Kinds.{kind_number}
-use Rattle.porch_types.specs.LeafTypes.{pointee_of}
 use Rattle.porch_values.specs.declared.acts.Act.{Act}
-use Rattle.porch_values.specs.declared.acts.Act.TheVariants.{Indeterminate}
 use Rattle.porch_values.specs.Integers.{converted}
-use Rattle.porch_objects.specs.Store.{Value, number, null, pointer, past, indeterminate, Object, Store, seen}
+use Rattle.porch_objects.specs.Store.{Value, number, null, pointer, past, indeterminate, Object, seen}
 use Rattle.porch_objects.specs.Pointers.{if_there, if_number, step}
 use Rattle.porch_objects.specs.Meaning.{Progress}
 use Rattle.porch_flat.specs.declared.flat.Operand.{Operand}
@@ -26,18 +23,18 @@ use Rattle.porch_mean.specs.Outcome.{Went, with_result}
 use Rattle.porch_mean.specs.Operators.{promoted_kind, as_value}
 use Rattle.porch_mean.specs.Operators as meaning
 use Rattle.porch_lowering.specs.Code.{InUse}
-use Rattle.porch_lowering.specs.Values.{INT, LONG}
+use Rattle.porch_lowering.specs.Values.{INT}
 use Rattle.porch_lowering.specs.Operators.{var_of, used_commands, commands_if, used_if, operand_if, next_of, is_small, is_converted, may_fail, promoted, operate}
 use Rattle.porch_sound.specs.Typing.{StoreTyping}
 use Rattle.porch_lowered.proofs.States.{Stands, front_stands, back_stands}
-use Rattle.porch_lowered.proofs.Codes.{Context, commands, here, IsOf, Follow, IsUsed, IsReady, MayGo, Arrives}
+use Rattle.porch_lowered.proofs.Codes.{Context, commands, here, IsOf, Follow, IsUsed, IsReady, Arrives}
 use Rattle.porch_lowered.proofs.Holding.{IsSetting, kept_types, one_is_used, one_at_least, used_before}
 use Rattle.porch_lowered.proofs.Operands.{IsOperand, operand_stays}
 use Rattle.porch_lowered.proofs.Conversions.{IsNumber, convert}
 use Rattle.porch_lowered.proofs.Commands.{convert_follows}
 use Rattle.porch_lowered.proofs.Operate.{InRange, is_number, Fits, same_kind, is_variable, from_here}
-use Rattle.porch_lowered.proofs.OperatorCode.{promoted_number, promotes}
-use Rattle.porch_lowered.proofs.Pointers.{stepped, step_command, step_follows, difference_follows}
+use Rattle.porch_lowered.proofs.OperatorCode.{promotes}
+use Rattle.porch_lowered.proofs.Pointers.{stepped, step_command, step_follows}
 
 same_not_converted : (o : Operand) (ty : ℕ) → is_converted o ty ty ≡ false
 same_not_converted (Constant z) ty = refl

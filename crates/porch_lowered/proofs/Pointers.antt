@@ -1,12 +1,11 @@
 -- Operators with pointers: STEP and BACK make what `+` and `-` of a pointer and a number give, and DIFF what `-` of two pointers
 -- gives.
-use Rattle.std.proofs.Common.{◌≡◌, ℕ, ◌+◌, ℤ, List, [], ◌∷◌, ◌++◌, length, length-append, refl, sym, ap, subst, ◌∙◌, inl, inr, arith, Bool, true, false, Option, Some, None}
+use Rattle.std.proofs.Common.{◌≡◌, ℕ, ◌+◌, ℤ, List, ◌∷◌, refl, ap, ◌∙◌, inl, Some, None}
 use Rattle.std.specs.Prelude.{slice_get, unwrap_or, pos, ◌-ℤ◌, IsTrue, Result, Ok, Err}
 use Rattle.porch_types.specs.declared.shapes.Kind.{Kind}
 use Rattle.porch_types.specs.declared.shapes.Kind.TheVariants.{Long}
 use Rattle.porch_types.specs.declared.shapes.Ty.{Ty}
 use Rattle.porch_types.specs.declared.shapes.Ty.TheVariants.{Whole, Pointer}
-use Rattle.porch_types.specs.Kinds.{kind_number}
 use Rattle.porch_values.specs.declared.acts.Act.{Act}
 use Rattle.porch_values.specs.declared.acts.Act.TheVariants.{Indeterminate}
 use Rattle.porch_values.specs.Integers.{is_value_of}
@@ -19,10 +18,9 @@ use Rattle.porch_flat.specs.declared.whole.Command.{Command}
 use Rattle.porch_flat.specs.declared.whole.Command.TheVariants as command
 use Rattle.porch_flat.specs.declared.whole.Direction.{Direction}
 use Rattle.porch_flat.specs.declared.whole.Direction.TheVariants.{Forward, Back}
-use Rattle.porch_flat.specs.whole.Form.{form_of}
 use Rattle.porch_flat.specs.whole.Places.{pointed, type_at}
-use Rattle.porch_abstract.specs.Machine.{Next, Goes, Meets, counted, put}
-use Rattle.porch_abstract.specs.whole.Machine.{if_ok, does, forward, operand_of, var_type, variable_of}
+use Rattle.porch_abstract.specs.Machine.{Next, Meets, counted}
+use Rattle.porch_abstract.specs.whole.Machine.{if_ok, forward, operand_of, var_type, variable_of}
 use Rattle.porch_mean.specs.Outcome.{Went, with_result}
 use Rattle.porch_mean.specs.Operators.{as_value}
 use Rattle.porch_lowering.specs.Code.{InUse}
@@ -33,7 +31,6 @@ use Rattle.porch_lowered.specs.Beside.{beside}
 use Rattle.porch_lowered.proofs.ReadAlike.{step_alike, difference_alike, seen_grounded}
 use Rattle.porch_lowered.proofs.Typed.{counts}
 use Rattle.porch_lowered.proofs.SameLeaf.{seen_twice}
-use Rattle.porch_lowered.proofs.States.{IsQuiet}
 use Rattle.porch_lowered.proofs.Codes.{Context, commands, frame, here, goes_on, IsOf, Follow, IsReady, grounded, value_is_grounded, MayGo, Arrives}
 use Rattle.porch_lowered.proofs.Holding.{IsSetting, kept_types}
 use Rattle.porch_lowered.proofs.Operands.{IsOperand, variable_is, operand_type, number_is}

@@ -1,11 +1,11 @@
 -- STORE: what stands at a place becomes a value.
-use Rattle.std.proofs.Common.{◌≡◌, ℕ, ◌+◌, List, [], ◌∷◌, refl, sym, ap, subst, ◌∙◌, inl, inr, Bool, true, false, Option, Some, None}
+use Rattle.std.proofs.Common.{◌≡◌, ℕ, ◌+◌, List, ◌∷◌, refl, ap, subst, ◌∙◌, inl, inr, Option, Some, None}
 use Rattle.std.proofs.lemmas.Bool.Decides.{eqb_tells}
-use Rattle.std.specs.Prelude.{⊤, slice_get, slice_set, Result, Ok, Err}
+use Rattle.std.specs.Prelude.{slice_get, slice_set, Result, Ok, Err}
 use Rattle.porch_types.specs.declared.shapes.Ty.TheVariants.{Pointer}
 use Rattle.porch_types.specs.LeafTypes.{IsScalar}
 use Rattle.porch_values.specs.declared.acts.Act.{Act}
-use Rattle.porch_objects.specs.Store.{Home, of_global, of_call, of_block, Value, number, null, pointer, past, indeterminate, Object, Activation, Store, changed_at, changed_calls, changed, seen, with_leaves, with_leaf_at}
+use Rattle.porch_objects.specs.Store.{Home, of_global, of_call, of_block, Value, number, null, pointer, past, indeterminate, Object, Store, changed_at, changed_calls, changed, seen, with_leaves, with_leaf_at}
 use Rattle.porch_objects.specs.Pointers.{if_there, if_place, store}
 use Rattle.porch_objects.specs.Meaning.{Progress, with_store}
 use Rattle.porch_flat.specs.declared.flat.Operand.{Operand}
@@ -13,8 +13,8 @@ use Rattle.porch_flat.specs.declared.flat.Operand.TheVariants.{Var}
 use Rattle.porch_flat.specs.declared.whole.Command.TheVariants as command
 use Rattle.porch_flat.specs.whole.Form.{form_of}
 use Rattle.porch_flat.specs.whole.Places.{pointed, type_at}
-use Rattle.porch_abstract.specs.Machine.{State, running, Next, Goes}
-use Rattle.porch_abstract.specs.whole.Machine.{if_ok, does, stored, operand_of, var_type, variable_of}
+use Rattle.porch_abstract.specs.Machine.{Next, Goes}
+use Rattle.porch_abstract.specs.whole.Machine.{if_ok, does, stored, operand_of, var_type}
 use Rattle.porch_mean.specs.Outcome.{Went, with_result}
 use Rattle.porch_lowering.specs.Code.{InUse}
 use Rattle.porch_sound.specs.Typing.{StoreTyping, IsTypedStore}
@@ -28,7 +28,7 @@ use Rattle.porch_lowered.proofs.Follows.{follows_result}
 use Rattle.porch_lowered.proofs.Temporaries.{IsInside}
 use Rattle.porch_lowered.proofs.SameLeaf.{seen_twice}
 use Rattle.porch_lowered.proofs.States.{command_goes, command_meets}
-use Rattle.porch_lowered.proofs.Codes.{Context, commands, frame, here, IsOf, Follow, IsReady, grounded, value_is_grounded, MayGo, Arrives}
+use Rattle.porch_lowered.proofs.Codes.{Context, commands, frame, here, IsOf, Follow, IsReady, grounded, value_is_grounded, Arrives}
 use Rattle.porch_lowered.proofs.Holding.{IsSetting, kept_types}
 use Rattle.porch_lowered.proofs.Operands.{IsOperand, variable_is, operand_is, operand_type}
 

@@ -1,11 +1,11 @@
 -- What a store typing says of names and values is what is needed to read them beside temporaries.
-use Rattle.std.proofs.Common.{◌≡◌, ◌<◌, ℕ, zero, suc, List, [], ◌∷◌, ◌++◌, append-nil, append_assoc, length, map, refl, sym, ap, ◌∙◌, arith, Option, Some, None}
+use Rattle.std.proofs.Common.{◌≡◌, ◌<◌, ℕ, zero, suc, List, [], ◌∷◌, ◌++◌, append-nil, append_assoc, length, map, refl, sym, ap, ◌∙◌, arith, Some}
 use Rattle.std.specs.Prelude.{slice_get, slice_index, slice_index_or}
 use Rattle.porch_types.specs.declared.shapes.Ty.{Ty}
 use Rattle.porch_types.specs.LeafTypes.{leaf_type}
 use Rattle.porch_values.specs.declared.widths.Widths.{Widths}
 use Rattle.porch_objects.specs.Store.{Home, of_global, of_call, of_block, Value, number, null, pointer, past, indeterminate, Root, Object, Activation, HeapObject, Store}
-use Rattle.porch_sound.specs.Typing.{Each, StoreTyping, one_root, root_of, Adds, Points, IsValueOf, IsTypedObject, AreTyped, IsTypedCall, IsTypedBlock, IsTypedStore}
+use Rattle.porch_sound.specs.Typing.{Each, StoreTyping, one_root, root_of, Adds, IsValueOf, IsTypedObject, AreTyped, IsTypedCall, IsTypedBlock, IsTypedStore}
 use Rattle.porch_lowered.specs.Beside.{IsDeclared, IsGrounded, HoldsGrounded, IsFrame, IsGroundedStore}
 
 -- how many variables each call declares

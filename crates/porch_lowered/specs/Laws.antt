@@ -1,5 +1,5 @@
 -- What is done through pointers of the source is the same with temporaries beside it, and leaves these as they were.
-use Rattle.std.specs.Prelude.{ℕ, ℤ, ◌≡◌, ⊤, Bool, List, [], ◌∷◌, ◌++◌, length, Result, Ok, Err}
+use Rattle.std.specs.Prelude.{ℕ, ℤ, ◌≡◌, Bool, List, [], ◌∷◌, ◌++◌, length, Result, Ok, Err}
 use Rattle.porch_types.specs.declared.shapes.Ty.{Ty}
 use Rattle.porch_values.specs.declared.acts.Act.{Act}
 use Rattle.porch_objects.specs.Store.{Home, Value, Object, Store, object_at, seen, leaf_at, forgotten, entered, left, reached_one}
