@@ -1,5 +1,5 @@
 -- What has no value: `checkpoint()`, and the declaration of a variable that is reached.
-use Rattle.std.proofs.Common.{◌≡◌, ℕ, ◌+◌, List, [], ◌∷◌, length, refl, Option, Some, None}
+use Rattle.std.proofs.Common.{◌≡◌, ℕ, ◌+◌, List, length, refl, Some, None}
 use Rattle.std.specs.Prelude.{slice_get, replicate}
 use Rattle.porch_objects.specs.Store.{of_call, indeterminate, Object, with_leaves, forgotten}
 use Rattle.porch_objects.specs.Meaning.{Progress, with_store}
