@@ -7,7 +7,8 @@ use Rattle.porch_values.specs.declared.acts.Act.{Act}
 use Rattle.porch_values.specs.declared.acts.Act.TheVariants as act
 use Rattle.porch_objects.specs.Store.{Home, of_global, of_call, of_block, Value, number, null, pointer, past, indeterminate, Object, Activation, Store, with_calls, changed_at, changed_calls, changed, object_at, seen, with_leaves, left}
 use Rattle.porch_objects.specs.Pointers.{if_there, used, if_place, leaves_from, spliced, store, copy, Allocation, allocate, MOST_COUNT, release_at, release}
-use Rattle.porch_lowered.specs.Beside.{Each, with_temporaries, beside, IsDeclared, IsGrounded, IsFrame, IsGroundedStore}
+use Rattle.porch_sound.specs.Typing.{Each}
+use Rattle.porch_lowered.specs.Beside.{with_temporaries, beside, IsDeclared, IsGrounded, IsFrame, IsGroundedStore}
 use Rattle.porch_lowered.specs.Laws.{store_beside, allocation_beside, ChangesAlike}
 use Rattle.porch_lowered.proofs.ReadAlike.{front, object_alike, seen_alike, seen_grounded}
 

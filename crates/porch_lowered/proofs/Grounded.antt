@@ -13,8 +13,10 @@ use Rattle.porch_values.specs.declared.acts.Act.{Act}
 use Rattle.porch_values.specs.declared.acts.Act.TheVariants as act
 use Rattle.porch_objects.specs.Store.{Home, of_global, of_call, of_block, Value, number, null, pointer, past, indeterminate, Root, Object, Activation, HeapObject, Store, leaves_in, zero_of, changed_at, changed_calls, changed_blocks, changed, object_at, seen, leaf_at, with_leaves, forgotten, entered, left, with_calls}
 use Rattle.porch_objects.specs.Pointers.{if_there, if_place, load, member, Position, row_in, position_of, is_shared, element_from, step_from, step, leaves_from, spliced, store, copy, Allocation, block_of, allocate, MOST_COUNT, without_block, release_at, release}
-use Rattle.porch_lowered.specs.Beside.{Each, IsDeclared, IsGrounded, HoldsGrounded, IsFrame, IsGroundedStore}
-use Rattle.porch_lowered.specs.Laws.{Gives, StaysGrounded}
+use Rattle.porch_sound.specs.Typing.{Each}
+use Rattle.porch_lowered.specs.Beside.{IsDeclared, IsGrounded, HoldsGrounded, IsFrame, IsGroundedStore}
+use Rattle.porch_sound.specs.Laws.{Gives}
+use Rattle.porch_lowered.specs.Laws.{StaysGrounded}
 use Rattle.porch_lowered.proofs.ReadAlike.{found_in, OnSome, object_holds, leaf_grounded, seen_grounded}
 
 -- lists of which each element has a property

@@ -4,6 +4,8 @@ pub mod ReadAlike
 pub mod ChangeAlike
 -- nothing points to a temporary
 pub mod Grounded
+-- what a store typing says of names and values
+pub mod Typed
 -- runs from a state
 pub mod Runs
 -- how a flat run follows an evaluation
@@ -18,21 +20,53 @@ pub mod Growing
 pub mod Codes
 -- values that are held in temporaries
 pub mod Holding
--- forms with one operand
-pub mod OneOperand
--- single forms
-pub mod Forms
--- forms with two operands
-pub mod TwoOperands
+-- a leaf that is written with the value that it has
+pub mod SameLeaf
+-- operands: temporaries, variables of the source, constants
+pub mod Operands
+-- integers that need no conversion, and conversions that meet no act
+pub mod Numbers
+-- operands that are used and converted, and what is made of them
+pub mod Conversions
 -- jumps, turns and checkpoints
 pub mod Control
--- pointers to variables and globals
-pub mod Places
 -- conditions
 pub mod Branches
+-- one command that makes a value, and conversions
+pub mod Commands
+-- the code of an operator on two integers
+pub mod Operate
+-- arithmetic and shifts
+pub mod Integers
+-- comparisons of integers
+pub mod Comparisons
+-- the code of operators on integers
+pub mod OperatorCode
+-- values that are held, and what follows
+pub mod Held
+-- single forms
+pub mod Forms
+-- forms with one operand
+pub mod OneOperand
+-- pointers to variables and globals
+pub mod Places
 -- `?:`
 pub mod Choices
--- pointers that are stepped
-pub mod PointerSteps
--- the elements between two pointers
-pub mod PointerDifferences
+-- pointers that are stepped, and the elements between two
+pub mod Pointers
+-- the code of operators that step a pointer
+pub mod PointerCode
+-- expressions that are operands where they stand
+pub mod Atoms
+-- what is read, and conversions
+pub mod Converted
+-- what is stored
+pub mod Stores
+-- variables that are assigned to
+pub mod Assignments
+-- `+`, `-` and `~` of an operand
+pub mod Unary
+-- structs that are copied
+pub mod Copies
+-- what has no value: checkpoints, and declarations that are reached
+pub mod Valueless

@@ -4,20 +4,23 @@ use Rattle.std.specs.Prelude.{slice_get, is_some, unwrap_or, if◌then◌else◌
 use Rattle.porch_values.specs.declared.acts.Act.{Act}
 use Rattle.porch_objects.specs.Store.{Home, of_global, of_call, Value, pointer, indeterminate, Object, Store, variables_in, object_at}
 use Rattle.porch_objects.specs.Pointers.{if_there, if_place, member}
-use Rattle.porch_objects.specs.Meaning.{Environment, Progress}
+use Rattle.porch_objects.specs.Meaning.{Progress}
 use Rattle.porch_flat.specs.declared.whole.Command.{Command}
 use Rattle.porch_flat.specs.declared.whole.Command.TheVariants as command
-use Rattle.porch_flat.specs.declared.whole.Flat.{Flat}
 use Rattle.porch_flat.specs.whole.Form.{form_of}
-use Rattle.porch_abstract.specs.Machine.{Frame, State, Goes, put}
+use Rattle.porch_abstract.specs.Machine.{Goes, put}
 use Rattle.porch_abstract.specs.whole.Machine.{does}
 use Rattle.porch_mean.specs.Outcome.{Went, and_then}
 use Rattle.porch_mean.specs.Expression.{member_at}
 use Rattle.porch_lowering.specs.Code.{plain, Coder}
 use Rattle.porch_lowered.specs.Beside.{IsDeclared, IsGroundedStore}
 use Rattle.porch_lowered.proofs.Temporaries.{IsInside, innermost_is, same_number}
-use Rattle.porch_lowered.proofs.States.{frame_at, IsQuiet, command_goes}
-use Rattle.porch_lowered.proofs.Codes.{IsReady, here, Writes}
+use Rattle.porch_lowered.proofs.States.{IsQuiet, command_goes}
+use Rattle.porch_sound.specs.Typing.{StoreTyping}
+use Rattle.porch_lowered.proofs.Typed.{counts, adds_nothing}
+use Rattle.porch_lowered.proofs.Codes.{Context, frame, here, IsOf, IsReady, grounded, Writes}
+use Rattle.porch_lowered.proofs.Operands.{is_declared}
+use Rattle.porch_lowered.proofs.Holding.{IsSetting}
 
 -- an element that is there
 get_within : (xs : List Object) (i : ℕ) → i < length xs → (o : Object) × (slice_get xs i ≡ Some o)
@@ -49,58 +52,63 @@ member_of_named s home leaf o h =
     by_home : (home : Home) → object_at s home ≡ Some o → member s (pointer home 0) leaf ≡ Ok (pointer home (0 + leaf))
     by_home home h = ap (λ found. if_there (named found home) (in_it leaf)) h
 
-module _ (flat : Flat) (under : Environment) (n function : ℕ) (into : Option ℕ) (callers : List Frame) (more : List (List Object))
-    (declared : List ℕ) (call first : ℕ) (start pools : ℕ → ℕ) where
-  abbrev at : Progress → List Object → ℕ → State
-  at = here flat under n function into callers more declared call first start pools
-
+module _ (c : Context) where
   -- A command that makes the pointer to a leaf of an object that the source names.
-  pub record Names (home : Home) (leaf : ℕ) (command : (target : ℕ) → Command) : Type 0 where
-    pub known : IsDeclared declared home
-    pub quiet : (d : ℕ) → IsQuiet flat (form_of (command d))
-    pub does_is : (place d : ℕ) (s : Progress) (ts : List Object)
-        → IsReady flat under n function into callers more declared call first start pools s ts
-        → does flat under (frame_at flat under n function into callers more place) callers (form_of (command d)) (at s ts place)
-        ≡ Goes (put d (pointer home leaf) (at s ts (place + 1)))
+  pub record Names (ty : ℕ) (home : Home) (leaf : ℕ) (make : (target : ℕ) → Command) : Type 0 where
+    pub value : (made : StoreTyping) (s : Progress) (ts : List Object) → IsReady c made s ts → IsOf c made ty (pointer home leaf)
+    pub quiet : (d : ℕ) → IsQuiet c.flat (form_of (make d))
+    pub does_is : (place d : ℕ) (made : StoreTyping) (s : Progress) (ts : List Object) → IsReady c made s ts
+        → does c.flat c.under (frame c place) c.callers (form_of (make d)) (here c s ts place)
+        ≡ Goes (put d (pointer home leaf) (here c s ts (place + 1)))
 
   -- LOCAL and GLOBALA are such
-  pub local_names : (v leaf : ℕ) → IsDeclared declared (of_call call v) → Names (of_call call v) leaf (λ d. command.Local d v leaf)
-  local_names v leaf known =
+  pub local_names : (ty v leaf : ℕ)
+      → ((made : StoreTyping) (s : Progress) (ts : List Object) → IsReady c made s ts → IsOf c made ty (pointer (of_call c.call v) leaf))
+      → Names ty (of_call c.call v) leaf (λ d. command.Local d v leaf)
+  local_names ty v leaf value =
       record {
-        known = known;
+        value = value;
         quiet = λ d. record { calm = refl; silent = λ s frame. refl };
-        does_is = λ place d s ts ready.
-            ap (λ k. Goes (put d (pointer (of_call k v) leaf) (at s ts (place + 1)))) (innermost_is call s.store ready.inside (ts ∷ more));
+        does_is = λ place d made s ts ready.
+            ap (λ k. Goes (put d (pointer (of_call k v) leaf) (here c s ts (place + 1)))) (innermost_is c.call s.store ready.inside (ts ∷ c.more));
       }
 
-  pub global_names : (g leaf : ℕ) → Names (of_global g) leaf (λ d. command.GlobalA d g leaf)
-  global_names g leaf =
-      record { known = tt; quiet = λ d. record { calm = refl; silent = λ s frame. refl }; does_is = λ place d s ts ready. refl }
+  pub global_names : (ty g leaf : ℕ)
+      → ((made : StoreTyping) (s : Progress) (ts : List Object) → IsReady c made s ts → IsOf c made ty (pointer (of_global g) leaf))
+      → Names ty (of_global g) leaf (λ d. command.GlobalA d g leaf)
+  global_names ty g leaf value =
+      record { value = value; quiet = λ d. record { calm = refl; silent = λ s frame. refl }; does_is = λ place d made s ts ready. refl }
 
   -- the code of a place that is named
-  abbrev pub named_code : (command : (target : ℕ) → Command) → Coder
-  named_code command to used label = plain (command (unwrap_or to 0) ∷ []) used label
+  abbrev pub named_code : (make : (target : ℕ) → Command) → Coder
+  named_code make to used label = plain (make (unwrap_or to 0) ∷ []) used label
 
-  pub names_write : (ty : ℕ) (home : Home) (leaf : ℕ) (command : (target : ℕ) → Command) → Names home leaf command
-      → Writes flat under n function into callers more declared call first start pools ty (λ s. Went (pointer home leaf) s) (named_code command)
-  names_write ty home leaf command names d used label place s ts ready may room stands =
+  pub names_write : (ty : ℕ) (home : Home) (leaf : ℕ) (make : (target : ℕ) → Command) → Names ty home leaf make
+      → Writes c ty (λ s. Went (pointer home leaf) s) (named_code make)
+  names_write ty home leaf make names d used label place made s ts ready may room stands =
       record {
+        later = made;
+        adds = adds_nothing made;
         temporaries = ts;
         onward =
-            command_goes flat under n function into callers more (command d) place (at s ts place) stands.0 (names.quiet d)
-            (put d (pointer home leaf) (at s ts (place + 1))) s.marks (names.does_is place d s ts ready);
+            command_goes c.flat c.under c.n c.function c.into c.callers c.more (make d) place (here c s ts place) stands.0 (names.quiet d)
+            (put d (pointer home leaf) (here c s ts (place + 1))) s.marks (names.does_is place d made s ts ready);
         ready = ready;
-        grounded = names.known;
+        value = names.value made s ts ready;
         kept = λ i u ne. refl;
       }
 
   -- also where the source reaches the object first, and then a leaf of it
-  pub members_write : (ty : ℕ) (home : Home) (leaf : ℕ) (command : (target : ℕ) → Command) → Names home leaf command
-      → ((s : Progress) (ts : List Object) → IsReady flat under n function into callers more declared call first start pools s ts
-      → (o : Object) × (object_at s.store home ≡ Some o))
-      → Writes flat under n function into callers more declared call first start pools ty
-      (λ s. and_then (Went (pointer home 0) s) (λ at s. member_at at leaf s)) (named_code command)
-  members_write ty home leaf command names lives d used label place s ts ready may room stands =
-      let alive = lives s ts ready in
+  pub members_write : (ty : ℕ) (home : Home) (leaf : ℕ) (make : (target : ℕ) → Command) → Names ty home leaf make
+      → ((made : StoreTyping) (s : Progress) (ts : List Object) → IsReady c made s ts → (o : Object) × (object_at s.store home ≡ Some o))
+      → Writes c ty (λ s. and_then (Went (pointer home 0) s) (λ at s. member_at at leaf s)) (named_code make)
+  members_write ty home leaf make names lives d used label place made s ts ready may room stands =
+      let alive = lives made s ts ready in
       rw (member_of_named s.store home leaf alive.0 alive.1)
-      (names_write ty home leaf command names d used label place s ts ready may room stands)
+      (names_write ty home leaf make names d used label place made s ts ready may room stands)
+
+  -- a declared variable of the call is alive
+  pub local_lives : (set : IsSetting c) (v ty : ℕ) → slice_get c.variables v ≡ Some ty → (made : StoreTyping) (s : Progress) (ts : List Object) → IsReady c made s ts
+      → (o : Object) × (object_at s.store (of_call c.call v) ≡ Some o)
+  local_lives set v ty e made s ts ready =
+      variable_lives (counts made) c.call v s.store (grounded c made s ts ready) ready.inside (is_declared c set made s ts v ty ready e)

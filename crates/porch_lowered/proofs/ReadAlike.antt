@@ -11,7 +11,8 @@ use Rattle.porch_values.specs.declared.acts.Act.TheVariants as act
 use Rattle.porch_objects.specs.Store.{Home, of_global, of_call, of_block, Value, number, null, pointer, past, indeterminate, Object, Activation, HeapObject, Store, variables_in, block_in, object_at, is_good, seen, leaf_of, leaf_at}
 use Rattle.porch_objects.specs.Meaning.{byte_of}
 use Rattle.porch_objects.specs.Pointers.{if_there, used, if_number, if_place, load, member, Position, row_in, position_at, position_of, is_shared, element_from, step_from, step, difference, equality, with_byte, text_from, text_in, text}
-use Rattle.porch_lowered.specs.Beside.{Each, with_temporaries, beside, IsDeclared, IsGrounded, HoldsGrounded, IsFrame, IsGroundedStore}
+use Rattle.porch_sound.specs.Typing.{Each}
+use Rattle.porch_lowered.specs.Beside.{with_temporaries, beside, IsDeclared, IsGrounded, HoldsGrounded, IsFrame, IsGroundedStore}
 use Rattle.porch_lowered.specs.Laws.{ReadsAlike}
 
 -- of a longer list the same element

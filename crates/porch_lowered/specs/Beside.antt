@@ -1,12 +1,8 @@
 -- The store of a flat run beside that of the source: they have the same objects, and each call of the flat run has its
 -- temporaries behind the declared variables. So every object has the same name in both.
 use Rattle.std.specs.Prelude.{ℕ, ◌≡◌, ◌<◌, ⊤, List, [], ◌∷◌, ◌++◌, length, slice_index}
+use Rattle.porch_sound.specs.Typing.{Each}
 use Rattle.porch_objects.specs.Store.{Home, of_global, of_call, of_block, Value, number, null, pointer, past, indeterminate, Object, Activation, HeapObject, Store, with_calls}
-
--- P holds of each element
-abbrev pub Each : {A : Type 0} → (A → Type 0) → List A → Type 0
-Each P [] = ⊤
-Each P (x ∷ xs) = P x × Each P xs
 
 -- the calls with temporaries behind their variables, those of the innermost call first
 abbrev pub with_temporaries : List Activation → List (List Object) → List Activation

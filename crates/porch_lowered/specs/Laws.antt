@@ -1,11 +1,13 @@
 -- What is done through pointers of the source is the same with temporaries beside it, and leaves these as they were.
-use Rattle.std.specs.Prelude.{ℕ, ℤ, ◌≡◌, ⊤, Bool, List, [], ◌∷◌, ◌++◌, length, Result, Ok, Err}
+use Rattle.std.specs.Prelude.{ℕ, ℤ, ◌≡◌, Bool, List, [], ◌∷◌, ◌++◌, length, Result, Ok, Err}
 use Rattle.porch_types.specs.declared.shapes.Ty.{Ty}
 use Rattle.porch_values.specs.declared.acts.Act.{Act}
 use Rattle.porch_objects.specs.Store.{Home, Value, Object, Store, object_at, seen, leaf_at, forgotten, entered, left, reached_one}
 use Rattle.porch_objects.specs.Pointers as pointers
 use Rattle.porch_objects.specs.Pointers.{Allocation}
-use Rattle.porch_lowered.specs.Beside.{Each, beside, IsDeclared, IsGrounded, HoldsGrounded, IsGroundedStore}
+use Rattle.porch_sound.specs.Typing.{Each}
+use Rattle.porch_sound.specs.Laws.{Gives}
+use Rattle.porch_lowered.specs.Beside.{beside, IsDeclared, IsGrounded, HoldsGrounded, IsGroundedStore}
 
 -- a result of the source's store as one of the other store
 abbrev pub store_beside : List (List Object) → Result Store Act → Result Store Act
@@ -46,11 +48,6 @@ pub record ChangesAlike (types : List Ty) (declared : List ℕ) (s : Store) (t :
   -- a call begins with temporaries of its own, and ends with them
   pub enters : (variables more : List Object) → entered (beside s t) (variables ++ more) ≡ beside (entered s variables) (more ∷ t)
   pub leaves : (more : List Object) → left (beside s (more ∷ t)) ≡ beside (left s) t
-
--- what a result gives has a property
-abbrev pub Gives : {A : Type 0} → (A → Type 0) → Result A Act → Type 0
-Gives P (Ok x) = P x
-Gives P (Err a) = ⊤
 
 -- Nothing that is done through pointers of the source makes one to a temporary.
 pub record StaysGrounded (types : List Ty) (declared : List ℕ) (s : Store) : Type 0 where
