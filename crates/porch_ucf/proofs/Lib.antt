@@ -12,3 +12,5 @@ pub mod OneFlaw
 pub mod RunsInOrder
 pub mod RunByRun
 pub mod Stretches
+pub mod FoundRuns
+pub mod NumberPlaces

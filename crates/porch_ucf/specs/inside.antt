@@ -8,3 +8,5 @@ pub mod LeafTests
 pub mod Runs
 -- what is wrong with a checkpoint behind its front
 pub mod Checked
+-- where the SAVED of each call number stands
+pub mod SavedPlaces

@@ -7,12 +7,12 @@ ghost use Rattle.porch_points.specs.Plans.{end_of};
 ghost use Rattle.porch_ucf.specs.DataFlaws.{leaf_count, IsFirstFaulty, IsFaultless};
 ghost use Rattle.porch_ucf.specs.inside.LeafTests.{CanTest, IsFirstFailure, PassBelow};
 ghost use Rattle.porch_ucf.specs.inside.Leaves.{ArePlaced, ArePointees, EndWithin, HasSize, IsFirstOf, IsSoundBelow, WordsLieInside};
-ghost use Rattle.porch_ucf.specs.inside.Runs.{AreRuns};
+ghost use Rattle.porch_ucf.specs.inside.Runs.{AreRuns, AreRunsFound};
 
 use crate::fault::ImageFault;
 use crate::image::Image;
 use crate::leaf_test::failure;
-use crate::runs::{Run, elements_repeat, runs_of};
+use crate::runs::{Run, elements_repeat, find_runs, no_runs, runs_in};
 use porch_find::{Root, Roots};
 use porch_metrics::{
     Metrics, elements_are_aligned, extents_add_up, places_rise, ucf_is_a_layout,
@@ -46,13 +46,15 @@ pub(crate) fn check_leaves(
     ensures first { IfErr result (λ fault. (fault ≡ ImageFault.NoMemory)
         ⊎ IsFirstFaulty sought metrics.now.types objects.now.items image.now fault) }
 {
+    let mut found = no_runs(alloc, metrics)?;
     for object in objects.as_slice() {
-        check_object(alloc, sought, metrics, objects, image, *object)?;
+        check_object(alloc, sought, metrics, objects, image, *object, &mut found)?;
     }
     Ok(())
 }
 
-/// Refuses the first faulty leaf of an object.
+/// Refuses the first faulty leaf of an object. The runs of its type are found where they weren't
+/// before.
 fn check_object(
     alloc: Global,
     sought: Sought,
@@ -60,8 +62,10 @@ fn check_object(
     objects: &Roots,
     image: &Image,
     object: Root,
+    found: &mut Vec<Option<Vec<Run>>>,
 ) -> Result<(), ImageFault>
     requires size { HasSize sought }
+    requires found { AreRunsFound sought metrics.now.types found.old.items }
     requires placed { ArePlaced metrics.now.types objects.now.items }
     requires pointees { ArePointees metrics.now.types }
     requires known { object.ty < length metrics.now.types }
@@ -70,9 +74,11 @@ fn check_object(
         objects.now.items image.now object (leaf_count metrics.now.types object)) }
     ensures first { IfErr result (λ fault. (fault ≡ ImageFault.NoMemory)
         ⊎ IsFirstOf sought metrics.now.types objects.now.items image.now object fault) }
+    ensures found { OnOk result (AreRunsFound sought metrics.now.types found.new.items) }
 {
-    let runs = runs_of(alloc, sought, metrics, object.ty)?;
-    check_elements(sought, metrics, objects, image, object, &runs)
+    find_runs(alloc, sought, metrics, object.ty, found)?;
+    let runs = runs_in(found, object.ty);
+    check_elements(sought, metrics, objects, image, object, runs)
 }
 
 /// The same, where the runs of its type are known.

@@ -16,6 +16,7 @@ mod resumable;
 mod room;
 mod rows;
 mod runs;
+mod saved;
 mod write;
 
 pub use fault::{ImageFault, Reason};

@@ -26,6 +26,7 @@ use crate::laws::{files_are_read_back, first_flaws_are_one};
 use crate::leaves::{Sought, check_leaves};
 use crate::resumable::{check_blocks, check_frames};
 use crate::rows::{read_blocks, read_frames};
+use crate::saved::saved_places;
 use crate::write::SEAL_BYTES;
 use porch_find::Roots;
 use porch_flat::whole::{Flat, Valid};
@@ -121,7 +122,8 @@ fn check_image(
 {
     let header = image.header();
     let count = header.frames as usize;
-    check_frames(program, image.frames())?;
+    let saved = saved_places(alloc, program)?;
+    check_frames(program, &saved, image.frames())?;
     check_blocks(&program.types, count, image.blocks())?;
     let metrics = Metrics::new(alloc, &program.types, layout)?;
     check_data(alloc, program, &metrics, image)

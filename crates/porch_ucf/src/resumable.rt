@@ -1,17 +1,19 @@
 //! Whether the rows of a checkpoint can be resumed.
 
-ghost use Rattle.std.specs.Prelude.{◌≡◌, ◌≤◌, ◌<◌, ◌+◌, ◌^◌, length, position, slice_get, IfErr, OnOk, Some, None};
+ghost use Rattle.std.specs.Prelude.{◌≡◌, ◌≤◌, ◌<◌, ◌+◌, ◌^◌, length, slice_get, IfErr, OnOk, Some, None};
 ghost use Rattle.std.specs.Option.{option_map};
 ghost use Rattle.porch_ucf.specs.Reading.{row_place};
 ghost use Rattle.porch_flat.specs.whole.Form.{form_of};
-ghost use Rattle.porch_flat.specs.whole.Places.{commands_of, is_number};
+ghost use Rattle.porch_flat.specs.whole.Places.{commands_of};
 ghost use Rattle.porch_flat.specs.whole.Rewritten.{passes};
-ghost use Rattle.porch_ucf.specs.RowFlaws.{kept_number, call_of, waits_for, function_of, begins_in_main, is_resumable_at, frame_flaw, is_block, block_flaw};
+ghost use Rattle.porch_ucf.specs.inside.SavedPlaces.{AreSavedPlaces};
+ghost use Rattle.porch_ucf.specs.RowFlaws.{call_of, waits_for, function_of, begins_in_main, is_resumable_at, frame_flaw, is_block, block_flaw};
 
 use crate::fault::{ImageFault, Reason};
 use crate::front::ROW_BYTES;
 use crate::header::HEADER_BYTES;
 use crate::image::{BlockRow, FrameRow};
+use crate::saved::{places_of, saved_place};
 use porch_flat::whole::{Command, Flat, Form, form_of_command, main_number};
 use porch_types::Types;
 
@@ -20,24 +22,35 @@ pub const MOST_COUNT: u32 = 2_147_483_647;
 
 /// Refuses the first frame that can't be resumed: the first one has to be that of main, and each has to
 /// wait at a call of the next one's function, the last one at a checkpoint.
-pub(crate) fn check_frames(program: &Flat, frames: &[FrameRow]) -> Result<(), ImageFault>
-    requires { length frames.now < 2 ^ 32 }
+pub(crate) fn check_frames(
+    program: &Flat,
+    saved: &[Vec<Option<usize>>],
+    frames: &[FrameRow],
+) -> Result<(), ImageFault>
+    requires few { length frames.now < 2 ^ 32 }
+    requires saved { AreSavedPlaces program.now saved.now }
     ensures sound { OnOk result (frame_flaw program.now frames.now ≡ None) }
     ensures flaw { IfErr result (λ fault. frame_flaw program.now frames.now ≡ Some fault) }
 {
     for i in 0..frames.len() {
-        if !is_resumable_at(program, frames, i) {
+        if !is_resumable_at(program, saved, frames, i) {
             return Err(row_damaged(i, Reason::Frame));
         }
     }
     Ok(())
 }
 
-fn is_resumable_at(program: &Flat, frames: &[FrameRow], i: usize) -> bool
-    requires { i < length frames.now }
+fn is_resumable_at(
+    program: &Flat,
+    saved: &[Vec<Option<usize>>],
+    frames: &[FrameRow],
+    i: usize,
+) -> bool
+    requires within { i < length frames.now }
+    requires saved { AreSavedPlaces program.now saved.now }
     ensures { result ≡ is_resumable_at program.now frames.now i }
 {
-    (0 < i || begins_in_main(program, frames)) && waits(program, frames, i)
+    (0 < i || begins_in_main(program, frames)) && waits(program, saved, frames, i)
 }
 
 fn begins_in_main(program: &Flat, frames: &[FrameRow]) -> bool
@@ -60,26 +73,33 @@ fn function_at(frames: &[FrameRow], i: usize) -> Option<u32>
 }
 
 /// Whether the frame waits at a call of the next one's function, or at a checkpoint where none is next.
-fn waits(program: &Flat, frames: &[FrameRow], i: usize) -> bool
-    requires { i < length frames.now }
+fn waits(program: &Flat, saved: &[Vec<Option<usize>>], frames: &[FrameRow], i: usize) -> bool
+    requires within { i < length frames.now }
+    requires saved { AreSavedPlaces program.now saved.now }
     ensures { result ≡ passes
         (λ frame. passes (waits_for (function_of (slice_get frames.now (i + 1))))
         (call_of program.now frame.function frame.call))
         (slice_get frames.now i) }
 {
     let frame = frames[i];
-    match call_of(program, frame.function, frame.call) {
+    match call_of(program, saved, frame.function, frame.call) {
         Some(command) => waits_for(function_at(frames, i + 1), command),
         None => false,
     }
 }
 
 /// The call of a call number in a function: it stands in front of the SAVED that keeps the number.
-fn call_of(program: &Flat, function: u32, number: u32) -> Option<&Command>
+fn call_of<'a>(
+    program: &'a Flat,
+    saved: &[Vec<Option<usize>>],
+    function: u32,
+    number: u32,
+) -> Option<&'a Command>
+    requires { AreSavedPlaces program.now saved.now }
     ensures { option_map (λ c. form_of c.now) result ≡ call_of program.now function number }
 {
     let commands = commands_of(program, function);
-    match saved_place(commands, number) {
+    match saved_place(commands, places_of(saved, function), number) {
         Some(place) => commands.get(place.saturating_sub(1)),
         None => None,
     }
@@ -91,49 +111,6 @@ fn commands_of(program: &Flat, function: u32) -> &[Command]
     match program.functions.get(function as usize) {
         Some(function) => function.commands.as_slice(),
         None => &[],
-    }
-}
-
-/// Where the SAVED stands that keeps a call number.
-fn saved_place(commands: &[Command], number: u32) -> Option<usize>
-    ensures { result ≡ position (λ c. is_number number (kept_number (form_of c))) commands.now }
-{
-    commands
-        .iter()
-        .position(|command| keeps_number(command, number))
-}
-
-fn keeps_number(command: &Command, number: u32) -> bool
-    ensures { result ≡ is_number number (kept_number (form_of command.now)) }
-{
-    match form_of_command(command) {
-        Form::Saved(kept, _) => number == kept,
-        Form::Move(_, _)
-        | Form::Cast(_, _)
-        | Form::Operator(_, _, _, _)
-        | Form::Complement(_, _)
-        | Form::Comparison(_, _, _, _)
-        | Form::Subobject(_, _, _)
-        | Form::Step(_, _, _, _)
-        | Form::Difference(_, _, _)
-        | Form::Load(_, _)
-        | Form::Store(_, _)
-        | Form::Copy(_, _)
-        | Form::Kill(_)
-        | Form::Allocate(_, _, _)
-        | Form::Free(_)
-        | Form::Show(_, _, _)
-        | Form::Text(_, _)
-        | Form::Label(_)
-        | Form::Jump(_)
-        | Form::Branch(_, _)
-        | Form::Turn
-        | Form::Call(_, _, _)
-        | Form::Return(_)
-        | Form::Checkpoint
-        | Form::Restore(_)
-        | Form::Table(_, _)
-        | Form::Push(_) => false,
     }
 }
 

@@ -1,9 +1,11 @@
 //! Leaves of one type in a row, so that they are looked at with no search for each.
 
-ghost use Rattle.std.specs.Prelude.{◌<◌, ◌≤◌, ◌+◌, ◌^◌, length, IfOk, OnOk};
+ghost use Rattle.std.specs.Prelude.{◌≡◌, ◌<◌, ◌≤◌, ◌+◌, ◌^◌, length, Some, IfOk, OnOk};
 ghost use Rattle.porch_types.specs.Leaves.{leaves_of};
 ghost use Rattle.porch_ucf.specs.inside.Leaves.{ArePointees, HasSize};
-ghost use Rattle.porch_ucf.specs.inside.Runs.{AreRuns, ElementsRepeat, IsStretch};
+ghost use Rattle.porch_ucf.specs.declared.leaves.Sought.{Sought};
+ghost use Rattle.porch_ucf.specs.inside.Runs.{AreRuns, AreFoundAt, AreRunsFound, runs_found};
+ghost use Rattle.porch_ucf.specs.inside.Runs.{ElementsRepeat, IsStretch};
 
 use crate::leaf_test::{LeafTest, test_of};
 use crate::leaves::Sought;
@@ -30,8 +32,55 @@ pub(crate) struct Stretch {
     pub(crate) len: u64,
 }
 
+/// No runs, for each type.
+#[tactic(auto, using(crate::proofs::FoundRuns::none_more))]
+pub(crate) fn no_runs(alloc: Global, metrics: &Metrics) -> Result<Vec<Option<Vec<Run>>>, AllocError>
+    ensures { (sought : Sought) → IfOk result
+        (λ found. AreRunsFound sought metrics.now.types found.items) }
+{
+    let len = metrics.types().len();
+    let mut found = Vec::with_capacity(alloc, len)?;
+    for _ in 0..len {
+        found.push(None)?;
+    }
+    Ok(found)
+}
+
+/// Finds the runs of a type, where they weren't found before.
+pub(crate) fn find_runs(
+    alloc: Global,
+    sought: Sought,
+    metrics: &Metrics,
+    ty: u32,
+    found: &mut Vec<Option<Vec<Run>>>,
+) -> Result<(), AllocError>
+    requires size { HasSize sought }
+    requires pointees { ArePointees metrics.now.types }
+    requires known { ty < length metrics.now.types }
+    requires found { AreRunsFound sought metrics.now.types found.old.items }
+    ensures found { OnOk result (AreRunsFound sought metrics.now.types found.new.items) }
+    ensures here { OnOk result (AreFoundAt found.new.items ty) }
+{
+    if found[ty as usize].is_none() {
+        let runs = runs_of(alloc, sought, metrics, ty)?;
+        found[ty as usize] = Some(runs);
+    }
+    Ok(())
+}
+
+/// The runs of a type for which they were found.
+pub(crate) fn runs_in(found: &[Option<Vec<Run>>], ty: u32) -> &[Run]
+    requires { AreFoundAt found.now ty }
+    ensures { runs_found found.now ty ≡ Some result.now }
+{
+    match &found[ty as usize] {
+        Some(runs) => runs.as_slice(),
+        None => &[],
+    }
+}
+
 /// The runs of a type, in order.
-pub(crate) fn runs_of(
+fn runs_of(
     alloc: Global,
     sought: Sought,
     metrics: &Metrics,

@@ -1,6 +1,7 @@
 -- The runs of leaves of a type of which a test is made.
-use Rattle.std.specs.Prelude.{◌≡◌, ℕ, ◌+◌, ◌*◌, ◌<◌, ◌≤◌, ◌⊎◌, List, length, slice_get, Some}
-use Rattle.std.specs.Option.{option_map_or}
+use Rattle.std.specs.Prelude.{◌≡◌, ℕ, ◌+◌, ◌*◌, ◌<◌, ◌≤◌, ◌⊎◌, List, Vec, length, slice_get, Option, Some, option_and_then}
+use Rattle.std.specs.Option.{option_map, option_map_or}
+use Rattle.std.specs.declared.alloc.Global.{Global}
 use Rattle.porch_types.specs.declared.shapes.Ty.{Ty}
 use Rattle.porch_types.specs.Leaves.{IsTypes, leaves_of}
 use Rattle.porch_types.specs.LeafTypes.{leaf_type}
@@ -48,6 +49,21 @@ module _ (sought : Sought) (types : List Ty) (root : ℕ) where
         → slice_get runs j ≡ Some b → a.first + a.len ≤ b.first
     pub whole : (leaf : ℕ) → leaf < reached
         → IsUntested sought (slice_get types (leaf_type types root leaf)) ⊎ IsInRun runs leaf
+
+-- the runs that were found for a type
+abbrev pub runs_found : List (Option (Vec Run Global)) → ℕ → Option (List Run)
+runs_found found ty =
+    option_and_then (option_map (λ (runs : Vec Run Global). runs.items)) (slice_get found ty)
+
+abbrev pub AreFoundAt : List (Option (Vec Run Global)) → ℕ → Type 0
+AreFoundAt found ty = (runs : List Run) × (runs_found found ty ≡ Some runs)
+
+-- what was found for each type are its runs
+pub record AreRunsFound (sought : Sought) (types : List Ty) (found : List (Option (Vec Run Global)))
+    : Type 0 where
+  pub each : (ty : ℕ) (runs : List Run) → runs_found found ty ≡ Some runs
+      → AreRuns sought types ty (leaves_of types ty) runs
+  pub all : length found ≡ length types
 
 -- the first leaf of the run of a number, and behind the runs the number of leaves
 abbrev pub begin_of : (leaves : ℕ) → List Run → ℕ → ℕ

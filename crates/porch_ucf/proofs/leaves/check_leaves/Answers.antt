@@ -19,7 +19,7 @@ returns-in_err-check_object-clause-first c =
       | inl memory ↦ inl memory
       | inr first ↦
           let here = subst (λ (l : List Root). IsFirstOf c.args.sought m.types objects c.args.image.now (get_or l i none) fault) c.as_slice-object-items.ensures first in
-          inr (first_here c.args.sought m.types objects c.args.image.now i none fault lt c.loop-object.invariant here)
+          inr (first_here c.args.sought m.types objects c.args.image.now i none fault lt c.loop-object.invariant.none here)
     ] in
     search (rules, answer)
 
@@ -31,10 +31,13 @@ loop-object-preserved c =
     let i = c.loop-object.object-index in
     let lt : i < length objects = subst (λ (l : List Root). i < length l) c.as_slice-object-items.ensures c.loop-object-test.true in
     let sound = subst (λ (l : List Root). IsSoundBelow c.args.sought m.types objects c.args.image.now (get_or l i none) (leaf_count m.types (get_or l i none))) c.as_slice-object-items.ensures c.in_ok-check_object.ensures.sound in
-    none_on c.args.sought m.types objects c.args.image.now i none lt c.loop-object.invariant sound
+    record {
+      none = none_on c.args.sought m.types objects c.args.image.now i none lt c.loop-object.invariant.none sound;
+      found = c.in_ok-check_object.ensures.found;
+    }
 
 pub returns-clause-sound : goal.returns-clause-sound
 returns-clause-sound c =
     let m = c.args.metrics.now in
     let same = ap (λ (l : List Root). length l) c.as_slice-object-items.ensures in
-    all_before c.args.sought m.types c.args.objects.now.items c.args.image.now c.loop-object.object-index (omega (arith, same)) c.loop-object.invariant
+    all_before c.args.sought m.types c.args.objects.now.items c.args.image.now c.loop-object.object-index (omega (arith, same)) c.loop-object.invariant.none
