@@ -27,4 +27,5 @@ pub mod Tokens
 pub mod Units
 pub mod Upward
 pub mod Walks
+pub mod Whole
 pub mod Words

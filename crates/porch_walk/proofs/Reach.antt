@@ -28,7 +28,7 @@ flag_start [] s (p ∷ ps) f h a = absurd h
 flag_start (x ∷ us) s [] f h a = absurd h
 flag_start (x ∷ us) s (p ∷ ps) f h a = sym a.0
 
-flag_of : (k : ℕ) (ts us : List Spelled) (s n : Stage) (ps : List Piece) → k ≤ length ts → run s (take k ts) ≡ Some n → (us ≡ [] → n.inside ≡ false) → AreMatched (take k ts ++ us) ps → Agree s ps → inside_at (slice_get ps k) ≡ n.inside
+pub flag_of : (k : ℕ) (ts us : List Spelled) (s n : Stage) (ps : List Piece) → k ≤ length ts → run s (take k ts) ≡ Some n → (us ≡ [] → n.inside ≡ false) → AreMatched (take k ts ++ us) ps → Agree s ps → inside_at (slice_get ps k) ≡ n.inside
 flag_of zero ts us s n ps l e f h a = subst (λ m. inside_at (slice_get ps 0) ≡ m.inside) (same_stage s n e) (flag_start us s ps (λ q. ap (λ m. m.inside) (same_stage s n e) ∙ f q) h a)
 flag_of (suc k) [] us s n ps l e f h a = absurd (no_room k l)
 flag_of (suc k) (t ∷ ts) us s n [] l e f h a = absurd h
@@ -37,13 +37,13 @@ flag_of (suc k) (t ∷ ts) us s n (p ∷ ps) l e f h a =
     (ap (λ o. run_from o (λ m. run m (take k ts))) (sym (step_same s t.word p.word t.bytes p.bytes h.0.word h.0.bytes)) ∙ e) a.1
     (λ m d b. flag_of k ts us m n ps (less_one k (length ts) l) d f h.1 b)
 
-ended_outside : (ts us : List Spelled) (n : Stage) (u : List _) → run start ts ≡ Some n → IsDeepUnit (ts ++ us) u → us ≡ [] → n.inside ≡ false
+pub ended_outside : (ts us : List Spelled) (n : Stage) (u : List _) → run start ts ≡ Some n → IsDeepUnit (ts ++ us) u → us ≡ [] → n.inside ≡ false
 ended_outside ts us n u e d q =
     let a = unit_accepted (ts ++ us) u d in
     let l : a.last ≡ n = same_stage (a.last) n (sym (a.run) ∙ ap (λ vs. run start (ts ++ vs)) q ∙ ap (run start) (append_none ts) ∙ e) in
     over_outside n.pending n.inside (ap is_over (sym l) ∙ a.ended)
 
-not_outside : (ts : List Spelled) (k : ℕ) (n : Stage) → k ≤ length ts → run start (take k ts) ≡ Some n → is_outside n.inside (map (λ q. q.word) (drop k ts)) ≡ false → IsOutside ts k → ⊥
+pub not_outside : (ts : List Spelled) (k : ℕ) (n : Stage) → k ≤ length ts → run start (take k ts) ≡ Some n → is_outside n.inside (map (λ q. q.word) (drop k ts)) ≡ false → IsOutside ts k → ⊥
 not_outside ts k n l e c o =
     let d = o.begins.unit in
     let q : inside_at (slice_get (unit_pieces (o.unit)) k) ≡ n.inside =

@@ -1,9 +1,9 @@
 //! What holds of the walk over all lists of tokens. The functions are laws, and have nothing to run.
 
-ghost use Rattle.std.specs.Prelude.{◌≡◌, List, map, take};
+ghost use Rattle.std.specs.Prelude.{◌≡◌, List, None, length, map, take};
 ghost use Rattle.porch_tree.specs.Pieces.{Piece, Spelled, unit_pieces};
 ghost use Rattle.porch_tree.specs.Mirror.{TranslationUnit};
-ghost use Rattle.porch_tree.specs.Grammar.{IsDeepUnit};
+ghost use Rattle.porch_tree.specs.Grammar.{IsDeepUnit, IsReach};
 ghost use Rattle.porch_walk.specs.Walk.{start, wrong, Told, IsTaken};
 ghost use Rattle.porch_walk.specs.Levels.{uses_shown};
 ghost use Rattle.porch_walk.specs.Had.{IsHad};
@@ -27,6 +27,13 @@ pub fn each_unit_is_taken()
 /// and the same holds of all of them. Nesting isn't looked at.
 pub fn the_first_fault_is_told()
     ensures { (ts : List Spelled) → IsReachOf ts (wrong 0 start ts) }
+{}
+
+/// The tokens of a unit are read to their end: none of them is outside the language behind the beginning of
+/// any unit, and some unit goes on with each.
+pub fn each_unit_is_read_whole()
+    ensures { (ts : List Spelled) (u : TranslationUnit) → IsDeepUnit ts u
+        → IsReach ts (length ts) None }
 {}
 
 /// Over the tokens of a unit the walk shows of each just the counted uses that its piece lies in, however
