@@ -1,0 +1,9 @@
+pub mod Found
+pub mod NextOperation
+pub mod Geometry
+pub mod InFunction
+pub mod Entering
+pub mod Standing
+pub mod Calling
+pub mod Leaving
+pub mod InFrame
