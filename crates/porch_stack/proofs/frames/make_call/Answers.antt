@@ -25,8 +25,13 @@ keep_caller-requires-clause-room c =
 
 pub place_frame-requires-clause-low : goal.place_frame-requires-clause-low
 place_frame-requires-clause-low c =
-    omega (arith, frame_within c.args.loaded.now c.requires.loaded c.args.spot.now _ c.requires.stage c.requires.stands c.args.calling c.requires.does c.arguments_are_passed.ensures c.args.passings.now
-    c.requires.passings c.args.size _ c.requires.size refl c.requires.fits c.requires.stands.memory_is, short c.args.loaded.now c.requires.loaded, c.requires.stands.memory_is)
+    omega (
+      arith,
+      frame_within c.args.loaded.now c.requires.loaded c.args.spot.now _ c.requires.stage c.requires.stands c.args.calling c.requires.does c.arguments_are_passed.ensures c.args.passings.now
+          c.requires.passings c.args.size _ c.requires.size refl c.requires.fits c.requires.stands.memory_is,
+      short c.args.loaded.now c.requires.loaded,
+      c.requires.stands.memory_is,
+    )
 
 pub returns-clause-column : goal.returns-clause-column
 returns-clause-column c =

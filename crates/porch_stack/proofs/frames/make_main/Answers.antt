@@ -10,8 +10,12 @@ enter_frame-requires-clause-within c =
 
 pub place_frame-requires-clause-low : goal.place_frame-requires-clause-low
 place_frame-requires-clause-low c =
-    omega (arith, main_within c.args.loaded.now c.requires.loaded c.args.spot.now _ c.requires.stage c.requires.stands c.args.size c.requires.size c.requires.fits c.requires.stands.memory_is,
-    short c.args.loaded.now c.requires.loaded, c.requires.stands.memory_is)
+    omega (
+      arith,
+      main_within c.args.loaded.now c.requires.loaded c.args.spot.now _ c.requires.stage c.requires.stands c.args.size c.requires.size c.requires.fits c.requires.stands.memory_is,
+      short c.args.loaded.now c.requires.loaded,
+      c.requires.stands.memory_is,
+    )
 
 pub returns-clause-column : goal.returns-clause-column
 returns-clause-column c =
