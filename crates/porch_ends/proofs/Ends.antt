@@ -25,11 +25,11 @@ module _ (flat : Flat) (on : Setting) (n : ℕ) where
   over_if m output true is h = record { run = byte_run Paused m.turns output; steps = 1; ends = rw is refl }
   over_if m output false is h = let o = h refl in record { run = o.run; steps = suc o.steps; ends = rw is o.ends }
 
-  module _ (bound : ℕ) (less : (to : State) (out : List ℕ) → left flat on n to < bound → IsOver to out) where
-    over_after : (m : State) (output : List ℕ) (c : Next) → LeavesLess flat on n bound c → IsOverAfter m output c
-    over_after m output (Goes to) h = let o = less to output h in record { run = o.run; steps = o.steps; ends = o.ends }
-    over_after m output (Shows to) h = let o = less to (output ++ to.shown) h in record { run = o.run; steps = o.steps; ends = o.ends }
-    over_after m output (IsDue to) h = let o = less to output h in record { run = o.run; steps = o.steps; ends = o.ends }
+  module _ (bound most : ℕ) (less : (to : State) (out : List ℕ) → left flat on n to < bound → IsOver to out) where
+    over_after : (m : State) (output : List ℕ) (c : Next) → LeavesLess flat on n bound most c → IsOverAfter m output c
+    over_after m output (Goes to) h = let o = less to output h.0 in record { run = o.run; steps = o.steps; ends = o.ends }
+    over_after m output (Shows to) h = let o = less to (output ++ to.shown) h.0 in record { run = o.run; steps = o.steps; ends = o.ends }
+    over_after m output (IsDue to) h = let o = less to output h.0 in record { run = o.run; steps = o.steps; ends = o.ends }
     over_after m output (Ends z to) h = record { run = byte_run (Ended z) to.turns output; steps = 0; ends = refl }
     over_after m output (Traps a) h = record { run = byte_run (Trap a) m.turns output; steps = 0; ends = refl }
     over_after m output (StackIsFull asked free) h = record { run = byte_run (StackFull asked free) m.turns output; steps = 0; ends = refl }
@@ -41,7 +41,8 @@ module _ (flat : Flat) (on : Setting) (n : ℕ) where
     over_within zero m output h = absurd (omega (arith, h))
     over_within (suc k) m output h =
         over_if m output (is_paused flat on n m) refl
-        (λ e. over_after (left flat on n m) (λ to out g. over_within k to out (omega (arith, g, h))) m output (next flat on m) (come_nearer s flat on n m valid e))
+        (λ e. over_after (left flat on n m) (n + m.turns) (λ to out g. over_within k to out (omega (arith, g, h))) m output (next flat on m)
+        (come_nearer s flat on n (n + m.turns) m valid e (omega arith) (omega arith)))
 
 pub each_run_ends : RunsEnd
 each_run_ends s flat on n m output valid =

@@ -27,7 +27,7 @@ use Rattle.porch_bytes.specs.State.{Setting, Frame, Phase, before, running, over
 use Rattle.porch_bytes.specs.Column.{Next, Goes, Traps, StackIsFull, MOST_COUNT, if_ok, if_text, with_blocks, used, heap_of, parts_with, size_of, align_of, leaf_place, stack_end, entered, returned, code_of, kind_in, pointee_in, variable_of, operand_of, address_in, onward, at_label, becomes, if_place, if_address, subobject, moved_by, copied, placed, allocated, freed, shows, does, after, next}
 use Rattle.porch_bytes.specs.ByteRun.{is_paused}
 use Rattle.porch_abstract.specs.whole.Machine.{forward}
-use Rattle.porch_ends.specs.Left.{commands_in, turn_weight, is_turn_at, is_label_at, near_turn, frames_left, turns_left, left_in, left, LeavesLess, StepsComeNearer}
+use Rattle.porch_ends.specs.Left.{commands_in, turn_weight, is_turn_at, is_label_at, near_turn, frames_left, turns_left, left_in, left, IsNearer, LeavesLess, StepsComeNearer}
 use Rattle.porch_ends.proofs.Lines.{Stands, Leads, label_at, a_turn, JumpsWell, jumps_of}
 
 -- a turn less weighs more than a frame
@@ -85,16 +85,16 @@ no_turn : (f : Form) (b : Bool) → is_turn f ≡ b → counts_turn f ≡ false 
 no_turn f false e h = e
 no_turn f true e h = let turn : f ≡ form.turn = a_turn f e in absurd (let same : counts_turn f ≡ true = rw turn refl in cc)
 
-module _ (flat : Flat) (on : Setting) (n : ℕ) where
-  less_if : (bound : ℕ) (b : Bool) (x y : Next) → LeavesLess flat on n bound x → LeavesLess flat on n bound y → LeavesLess flat on n bound (if b then x else y)
+module _ (flat : Flat) (on : Setting) (n most : ℕ) (high : n ≤ most) where
+  less_if : (bound : ℕ) (b : Bool) (x y : Next) → LeavesLess flat on n bound most x → LeavesLess flat on n bound most y → LeavesLess flat on n bound most (if b then x else y)
   less_if bound true x y h k = h
   less_if bound false x y h k = k
 
-  less_ok : (bound : ℕ) (r : Result ℤ Act) (go : ℤ → Next) → ((z : ℤ) → LeavesLess flat on n bound (go z)) → LeavesLess flat on n bound (if_ok r go)
+  less_ok : (bound : ℕ) (r : Result ℤ Act) (go : ℤ → Next) → ((z : ℤ) → LeavesLess flat on n bound most (go z)) → LeavesLess flat on n bound most (if_ok r go)
   less_ok bound (Ok z) go h = h z
   less_ok bound (Err a) go h = tt
 
-  less_text : (bound : ℕ) (o : Option (List ℕ)) (go : List ℕ → Next) → ((bytes : List ℕ) → LeavesLess flat on n bound (go bytes)) → LeavesLess flat on n bound (if_text o go)
+  less_text : (bound : ℕ) (o : Option (List ℕ)) (go : List ℕ → Next) → ((bytes : List ℕ) → LeavesLess flat on n bound most (go bytes)) → LeavesLess flat on n bound most (if_text o go)
   less_text bound None go h = tt
   less_text bound (Some bytes) go h = h bytes
 
@@ -144,62 +144,62 @@ module _ (flat : Flat) (on : Setting) (n : ℕ) where
         (no_more (turn_weight flat) (turns_left flat on n turns - near_turn commands frame.next) (turns_left flat on n turns - near_turn (code_of flat on caller.function) caller.next)
         (frames_left flat on (caller ∷ more)) (frames_left flat on (frame ∷ caller ∷ more)) (omega (arith, none)) (omega arith))
 
-    returned_less : (cs : List Frame) (value : Option ℤ) (m : State) → callers ≡ cs → near_turn commands frame.next ≡ 0
-        → LeavesLess flat on n (bound_at m.turns) (returned flat on frame.into cs value m)
-    returned_less [] value m e none = tt
-    returned_less (caller ∷ more) value m e none = left_less caller more m.turns e none
+    returned_less : (cs : List Frame) (value : Option ℤ) (m : State) → m.turns ≤ most → callers ≡ cs → near_turn commands frame.next ≡ 0
+        → LeavesLess flat on n (bound_at m.turns) most (returned flat on frame.into cs value m)
+    returned_less [] value m few e none = tt
+    returned_less (caller ∷ more) value m few e none = (left_less caller more m.turns e none, few)
 
-    module _ (m : State) where
+    module _ (m : State) (few : m.turns ≤ most) where
       abbrev bound : ℕ
       bound = bound_at m.turns
 
-      less_place : (at ty : ℕ) (go : ℕ → Next) → LeavesLess flat on n bound (go at) → LeavesLess flat on n bound (if_place flat on frame callers at ty go)
+      less_place : (at ty : ℕ) (go : ℕ → Next) → LeavesLess flat on n bound most (go at) → LeavesLess flat on n bound most (if_place flat on frame callers at ty go)
       less_place at ty go h =
           less_if bound (is_place (parts_with flat on (frame ∷ callers)) (size_of flat on ty) (align_of flat on ty) at) (go at) (Traps act.Address) h tt
 
-      less_address : (z : ℤ) (go : ℤ → Next) → LeavesLess flat on n bound (go z) → LeavesLess flat on n bound (if_address flat on frame callers z go)
+      less_address : (z : ℤ) (go : ℤ → Next) → LeavesLess flat on n bound most (go z) → LeavesLess flat on n bound most (if_address flat on frame callers z go)
       less_address z go h = less_if bound (is_address (parts_with flat on (frame ∷ callers)) z) (go z) (Traps act.Address) h tt
 
-      branch_less : (b : Bool) (k : ℕ) → left_at (frame.next + 1) m.turns < bound → left flat on n (at_label flat on frame callers k m) < bound
-          → left flat on n (if b then onward flat on frame callers m else at_label flat on frame callers k m) < bound
+      branch_less : (b : Bool) (k : ℕ) → IsNearer flat on n bound most (onward flat on frame callers m) → IsNearer flat on n bound most (at_label flat on frame callers k m)
+          → IsNearer flat on n bound most (if b then onward flat on frame callers m else at_label flat on frame callers k m)
       branch_less true k h j = h
       branch_less false k h j = j
 
       -- a jump
-      jump_less : (k : ℕ) → near_turn commands frame.next ≡ 0 → frame.next < length commands → Leads commands frame.next k → left flat on n (at_label flat on frame callers k m) < bound
+      jump_less : (k : ℕ) → near_turn commands frame.next ≡ 0 → frame.next < length commands → Leads commands frame.next k → IsNearer flat on n bound most (at_label flat on frame callers k m)
       jump_less k none within way =
           let label = label_at commands k way.to way.found in
           rw way.found (elim way.way [
-            | inl later ↦ further way.to m.turns later within (omega (arith, none))
-            | inr turn ↦ back way.to m.turns (near_at_label commands way.to label.0 label.1 turn) none
+            | inl later ↦ (further way.to m.turns later within (omega (arith, none)), few)
+            | inr turn ↦ (back way.to m.turns (near_at_label commands way.to label.0 label.1 turn) none, few)
           ])
 
       -- a command that counts no turn and calls nothing
-      module _ (less : left_at (frame.next + 1) m.turns < bound) where
-        less_subobject : (within : Within) (leaf v : ℕ) → LeavesLess flat on n bound (subobject flat on frame callers within leaf m (λ z. Goes (becomes flat on frame callers v m z)))
+      module _ (less : IsNearer flat on n bound most (onward flat on frame callers m)) where
+        less_subobject : (within : Within) (leaf v : ℕ) → LeavesLess flat on n bound most (subobject flat on frame callers within leaf m (λ z. Goes (becomes flat on frame callers v m z)))
         less_subobject (form.variable w) leaf v = less
         less_subobject (form.global g) leaf v = less
         less_subobject (form.pointee p) leaf v =
             less_address (variable_of flat on frame callers p m +ℤ pos (leaf_place flat on (pointee_in flat on frame callers p) leaf)) (λ z. Goes (becomes flat on frame callers v m z)) less
 
-        less_placed : (v ty count : ℕ) (r : Result ℕ HeapFull) → LeavesLess flat on n bound (placed flat on frame callers v ty count m r)
+        less_placed : (v ty count : ℕ) (r : Result ℕ HeapFull) → LeavesLess flat on n bound most (placed flat on frame callers v ty count m r)
         less_placed v ty count (Ok at) = less
         less_placed v ty count (Err fault) = tt
 
-        less_allocated : (v ty : ℕ) (count : ℤ) → LeavesLess flat on n bound (allocated flat on frame callers v ty count m)
+        less_allocated : (v ty : ℕ) (count : ℤ) → LeavesLess flat on n bound most (allocated flat on frame callers v ty count m)
         less_allocated v ty count =
             less_if bound (int_lt count (pos 1) || int_lt (pos MOST_COUNT) count) (Traps act.Count)
             (placed flat on frame callers v ty (unsigned_abs count) m (place_or_full (heap_of flat on m) (unsigned_abs count * size_of flat on ty) (align_of flat on ty))) tt
             (less_placed v ty (unsigned_abs count) (place_or_full (heap_of flat on m) (unsigned_abs count * size_of flat on ty) (align_of flat on ty)))
 
-        less_freed : (at : ℕ) → LeavesLess flat on n bound (freed flat on frame callers at m)
+        less_freed : (at : ℕ) → LeavesLess flat on n bound most (freed flat on frame callers at m)
         less_freed at =
             less_if bound (at == 0) (Goes (onward flat on frame callers m))
             (if begins at m.blocks then Goes (onward flat on frame callers (with_blocks m (without at m.blocks))) else Traps act.Free) less
             (less_if bound (begins at m.blocks) (Goes (onward flat on frame callers (with_blocks m (without at m.blocks)))) (Traps act.Free) less tt)
 
         does_less : (f : Form) → counts_turn f ≡ false → (is_some (label_of f) ≡ false → near_turn commands frame.next ≡ 0)
-            → ((k : ℕ) → jump_of f ≡ Some k → is_some (label_of f) ≡ false → left flat on n (at_label flat on frame callers k m) < bound) → LeavesLess flat on n bound (does flat on frame callers f m)
+            → ((k : ℕ) → jump_of f ≡ Some k → is_some (label_of f) ≡ false → IsNearer flat on n bound most (at_label flat on frame callers k m)) → LeavesLess flat on n bound most (does flat on frame callers f m)
         does_less (form.move v o) h none g = less
         does_less (form.cast v w) h none g = less_ok bound (converted (kind_in flat on frame callers v) (widths_of on.layout) (variable_of flat on frame callers w m)) (λ z. Goes (becomes flat on frame callers v m z)) (λ z. less)
         does_less (form.operator op v a b) h none g =
@@ -235,7 +235,7 @@ module _ (flat : Flat) (on : Setting) (n : ℕ) where
         does_less (form.branch o k) h none g = branch_less (int_eq (operand_of flat on frame callers o m) (pos 0)) k less (g k refl refl)
         does_less form.turn h none g = absurd (cc)
         does_less (form.call r f os) h none g = absurd (cc)
-        does_less (form.return o) h none g = returned_less callers (option_map (λ (o : Operand). operand_of flat on frame callers o m) o) m refl (none refl)
+        does_less (form.return o) h none g = returned_less callers (option_map (λ (o : Operand). operand_of flat on frame callers o m) o) m few refl (none refl)
         does_less form.checkpoint h none g = less
         does_less (form.restore vs) h none g = less
         does_less (form.table k l) h none g = less
@@ -244,14 +244,14 @@ module _ (flat : Flat) (on : Setting) (n : ℕ) where
 
       -- a command that counts a turn
       turned_less : (f : Form) → counts_turn f ≡ true → m.turns < n → frame.next < length commands → (is_turn f ≡ false → is_some (label_of f) ≡ false → near_turn commands frame.next ≡ 0)
-          → LeavesLess flat on n bound (does flat on frame callers f m)
-      turned_less form.turn h less within none = counted m.turns less within
+          → LeavesLess flat on n bound most (does flat on frame callers f m)
+      turned_less form.turn h less within none = (counted m.turns less within, omega (arith, less, high))
       turned_less (form.call r g os) h less within none =
           let args : List ℤ = map (λ (o : Operand). operand_of flat on frame callers o m) os in
           less_if bound (nat_lt on.stack (used flat on (record frame { next = frame.next + 1 } ∷ callers) + frame_size on.layout flat g))
           (StackIsFull (frame_size on.layout flat g) (on.stack - used flat on (record frame { next = frame.next + 1 } ∷ callers)))
           (Goes (entered flat on g args r (onward flat on frame callers m))) tt
-          (entered_less g (stack_end flat on (record frame { next = frame.next + 1 } ∷ callers)) m.turns r less (none refl refl))
+          (entered_less g (stack_end flat on (record frame { next = frame.next + 1 } ∷ callers)) m.turns r less (none refl refl), omega (arith, less, high))
       turned_less (form.move v o) h less within none = absurd (cc)
       turned_less (form.cast v w) h less within none = absurd (cc)
       turned_less (form.operator op v a b) h less within none = absurd (cc)
@@ -285,15 +285,15 @@ module _ (flat : Flat) (on : Setting) (n : ℕ) where
         far : is_turn (form_of c) ≡ false → is_some (label_of (form_of c)) ≡ false → near_turn commands frame.next ≡ 0
         far t l = far_from_turn commands frame.next c is (t, l)
 
-        command_less : (b : Bool) → counts_turn (form_of c) ≡ b → b && nat_le n m.turns ≡ false → JumpsWell commands → LeavesLess flat on n bound (does flat on frame callers (form_of c) m)
+        command_less : (b : Bool) → counts_turn (form_of c) ≡ b → b && nat_le n m.turns ≡ false → JumpsWell commands → LeavesLess flat on n bound most (does flat on frame callers (form_of c) m)
         command_less true turns paused well = turned_less (form_of c) turns (below n m.turns paused) within far
         command_less false turns paused well =
             let none : is_turn (form_of c) ≡ false = no_turn (form_of c) (is_turn (form_of c)) refl turns in
-            does_less (further (frame.next + 1) m.turns (omega arith) within (none_forgotten commands frame.next c is none)) (form_of c) turns (λ l. far none l)
+            does_less (further (frame.next + 1) m.turns (omega arith) within (none_forgotten commands frame.next c is none), few) (form_of c) turns (λ l. far none l)
             (λ k j l. jump_less k (far none l) within (well frame.next c is k j))
 
-      after_less : (o : Option Command) → slice_get commands frame.next ≡ o → counts o && nat_le n m.turns ≡ false → JumpsWell commands → LeavesLess flat on n bound (after flat on frame callers o m)
-      after_less None is paused well = returned_less callers None m refl (far_at_end commands frame.next is)
+      after_less : (o : Option Command) → slice_get commands frame.next ≡ o → counts o && nat_le n m.turns ≡ false → JumpsWell commands → LeavesLess flat on n bound most (after flat on frame callers o m)
+      after_less None is paused well = returned_less callers None m few refl (far_at_end commands frame.next is)
       after_less (Some c) is paused well = command_less c is (counts_turn (form_of c)) refl paused well
 
   -- the call of main
@@ -307,15 +307,17 @@ module _ (flat : Flat) (on : Setting) (n : ℕ) where
       omega (arith, less)
 
   module _ (well : (function : ℕ) → JumpsWell (commands_of (slice_get flat.functions function))) where
-    by_phase : (p : Phase) (m : State) → is_paused flat on n (with_phase m p) ≡ false → LeavesLess flat on n (left flat on n (with_phase m p)) (next flat on (with_phase m p))
-    by_phase before m paused =
+    by_phase : (p : Phase) (m : State) → m.turns ≤ most → is_paused flat on n (with_phase m p) ≡ false
+        → LeavesLess flat on n (left flat on n (with_phase m p)) most (next flat on (with_phase m p))
+    by_phase before m few paused =
         let main : ℕ = unwrap_or (main_of flat) 0 in
         less_if (left flat on n (with_phase m before)) (nat_lt on.stack (used flat on [] + frame_size on.layout flat main))
         (StackIsFull (frame_size on.layout flat main) (on.stack - used flat on [])) (Goes (entered flat on main [] None (with_phase m before))) tt
-        (main_less main (stack_end flat on []) m.turns (below n m.turns paused))
-    by_phase (running frame callers) m paused =
-        after_less frame callers (with_phase m (running frame callers)) (slice_get (code_of flat on frame.function) frame.next) refl paused (well frame.function)
-    by_phase over m paused = tt
+        (main_less main (stack_end flat on []) m.turns (below n m.turns paused), let t : m.turns < n = below n m.turns paused in omega (arith, t, high))
+    by_phase (running frame callers) m few paused =
+        after_less frame callers (with_phase m (running frame callers)) few (slice_get (code_of flat on frame.function) frame.next) refl paused (well frame.function)
+    by_phase over m few paused = tt
 
 pub come_nearer : StepsComeNearer
-come_nearer s flat on n m valid paused = by_phase flat on n (λ function. jumps_of s flat valid function (slice_get flat.functions function) refl) m.phase m paused
+come_nearer s flat on n most m valid paused high few =
+    by_phase flat on n most high (λ function. jumps_of s flat valid function (slice_get flat.functions function) refl) m.phase m few paused
