@@ -7,3 +7,5 @@ pub mod Standing
 pub mod Calling
 pub mod Leaving
 pub mod InFrame
+pub mod Doing
+pub mod Moved

@@ -4,3 +4,5 @@ pub mod Answers
 pub mod Holding
 -- the operation that comes next
 pub mod Next
+-- when it may be done
+pub mod Doing

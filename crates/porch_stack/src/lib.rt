@@ -2,13 +2,17 @@
 //! end them.
 //!
 //! Start at [`spot::Spot`]. `specs/Holding` says what state of `porch_bytes` a spot stands for, and what holds of it;
-//! `specs/Answers` says what a step answers.
+//! `specs/Answers` says what a step answers, and `specs/Doing` when the operation that comes next may be done.
 #![tactic(auto)]
 
 mod frames;
+mod going;
+mod laws;
 pub mod next;
 pub mod spot;
 pub mod step;
 
-pub use frames::{enter, enter_main, leave, returned_value};
+pub use frames::{enter, enter_main, leave, leave_at_end, leave_by_return, returned_value};
+pub use going::{count_turn, move_to};
+pub use laws::next_operations_may_be_done;
 pub use next::{next_operation, sort_of};

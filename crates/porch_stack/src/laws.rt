@@ -1,0 +1,12 @@
+//! When operations may be done where a machine stands. The function is a law, and has nothing to run.
+
+ghost use Rattle.porch_stack.specs.Doing.{NextMayBeDone};
+
+use porch_load::sound_operations_hold;
+
+/// The operation that comes next in a function may be done where the machine stands, and the next step is where it leads.
+pub fn next_operations_may_be_done()
+    ensures { NextMayBeDone }
+{
+    sound_operations_hold();
+}
