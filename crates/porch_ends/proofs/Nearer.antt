@@ -146,7 +146,7 @@ module _ (flat : Flat) (on : Setting) (n most : ℕ) (high : n ≤ most) where
 
     returned_less : (cs : List Frame) (value : Option ℤ) (m : State) → m.turns ≤ most → callers ≡ cs → near_turn commands frame.next ≡ 0
         → LeavesLess flat on n (bound_at m.turns) most (returned flat on frame.into cs value m)
-    returned_less [] value m few e none = tt
+    returned_less [] value m few e none = few
     returned_less (caller ∷ more) value m few e none = (left_less caller more m.turns e none, few)
 
     module _ (m : State) (few : m.turns ≤ most) where
@@ -316,7 +316,7 @@ module _ (flat : Flat) (on : Setting) (n most : ℕ) (high : n ≤ most) where
         (main_less main (stack_end flat on []) m.turns (below n m.turns paused), let t : m.turns < n = below n m.turns paused in omega (arith, t, high))
     by_phase (running frame callers) m few paused =
         after_less frame callers (with_phase m (running frame callers)) few (slice_get (code_of flat on frame.function) frame.next) refl paused (well frame.function)
-    by_phase over m few paused = tt
+    by_phase over m few paused = few
 
 pub come_nearer : StepsComeNearer
 come_nearer s flat on n most m valid paused high few =
