@@ -12,10 +12,10 @@ use Rattle.porch_mean.specs.Operators.{increment_of}
 use Rattle.porch_typed.specs.declared.typed.Operator.{Operator}
 use Rattle.porch_typed.specs.Mirror.{Expression, Expressions, Steps, Place, Print, Prints, Program}
 use Rattle.porch_typed.specs.Mirror as tree
-use Rattle.porch_lowering.specs.Code.{InUse, and_one, at_most, Code, plain, then_code, then_commands, commands_then, no_code, Coder, hold}
+use Rattle.porch_lowering.specs.Code.{InUse, and_one, Code, plain, no_code, Coder, hold}
 use Rattle.porch_lowering.specs.Values.{INT, type_held, pointer_to, may_lack, constant_of, variable_of, no_constant, atom_of, pointer_in}
 use Rattle.porch_lowering.specs.Operators.{right_accepts}
-use Rattle.porch_lowering.specs.Expression.{writes_last, place_type, next, with_target, hold_value, change_variable, change_place, assign_variable, assign_place, copy_struct, assign_by_shape, by_variable, converted_already, convert_to, member_code, read_code, test, goes_on_where_it_holds, put_code, code, place_code, arguments_code, print_arguments_code, print_argument_code, kept_code}
+use Rattle.porch_lowering.specs.Expression.{writes_last, place_type, next, with_target, change_variable, change_place, assign_variable, assign_place, copy_struct, assign_by_shape, by_variable, converted_already, convert_to, member_code, read_code, test, put_code, code, place_code, steps_code, arguments_code, print_arguments_code, print_argument_code, kept_code}
 
 -- where the code of a value takes as many temporaries as were in use
 abbrev pub Grows : Coder → Type 0
@@ -39,7 +39,7 @@ one_grows ty used t =
     ]
 
 -- a value is held
-hold_grows : (o : Option Operand) (x ty : ℕ) (value : Coder) → Grows value → (used : InUse) (label t : ℕ)
+pub hold_grows : (o : Option Operand) (x ty : ℕ) (value : Coder) → Grows value → (used : InUse) (label t : ℕ)
     → used t ≤ (hold o x ty value used label).code.most t
 hold_grows (Some o) x ty value g used label t = same (used t)
 hold_grows None x ty value g used label t = through (used t) (and_one ty used t) _ (one_grows ty used t) (g (Some x) (and_one ty used) label t)
@@ -217,6 +217,12 @@ module _ (p : Program) (start : ℕ → ℕ) where
     place_code_grows (tree.pointee e) None to used label t = code_grows e to used label t
     place_code_grows (tree.pointee e) (Some leaf) to used label t = hold_grows _ _ _ (code p start e) (code_grows e) used label t
     place_code_grows (tree.member leaf place) behind to used label t = place_code_grows place _ to used label t
+
+    pub steps_grow : (steps : Steps) (left : Operand) (ty : ℕ) (free : InUse) (to : Option ℕ) (used : InUse) (label t : ℕ)
+        → used t ≤ (steps_code p start steps left ty free to used label).most t
+    steps_grow tree.no_steps left ty free to used label t = same (used t)
+    steps_grow (tree.with_step op e steps) left ty free to used label t =
+        first (used t) _ _ (hold_grows _ _ (type_held p e) (code p start e) (code_grows e) used label t)
 
     arguments_grow : (es : Expressions) (used : InUse) (label t : ℕ) → used t ≤ (arguments_code p start es used label).most t
     arguments_grow tree.no_expressions used label t = same (used t)

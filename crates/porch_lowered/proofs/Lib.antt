@@ -46,16 +46,36 @@ pub mod OperatorCode
 pub mod Held
 -- single forms
 pub mod Forms
+-- operators use both operands
+pub mod Strict
+-- values as the store typing grows
+pub mod Later
 -- forms with one operand
 pub mod OneOperand
 -- pointers to variables and globals
 pub mod Places
--- `?:`
-pub mod Choices
 -- pointers that are stepped, and the elements between two
 pub mod Pointers
 -- the code of operators that step a pointer
 pub mod PointerCode
+-- comparisons of pointers
+pub mod PointerComparisons
+-- any operator on two operands
+pub mod Applied
+-- what the induction over expressions says
+pub mod Lowered
+-- rows of operators
+pub mod Rows
+-- operands that are tested
+pub mod Conditions
+-- expressions that are tested
+pub mod Tests
+-- `&&` and `||`
+pub mod Logic
+-- `?:`
+pub mod Choices
+-- values that are dropped, and commas
+pub mod Commas
 -- expressions that are operands where they stand
 pub mod Atoms
 -- what is read, and conversions

@@ -48,7 +48,7 @@ promoted_number UInt = refl
 promoted_number Long = refl
 promoted_number ULong = refl
 
-never_constant : (o : Operand) → IsAccepted (λ z. false) o → IsVar o
+pub never_constant : (o : Operand) → IsAccepted (λ z. false) o → IsVar o
 never_constant (Var x) h = tt
 never_constant (Constant z) h = cc
 
