@@ -25,7 +25,7 @@ pub at_most_right : (a b c : ℕ) → max a b ≤ c → b ≤ c
 at_most_right a b c h = omega (arith, h)
 
 -- A call of a function, in an environment and for n turns: its number, where its value goes, its callers and their
--- temporaries; the types of its declared variables; where the pools of temporaries begin, and how many each has.
+-- temporaries; the types of the globals and of its declared variables; where the pools of temporaries begin, and how many each has.
 pub record Context : Type 0 where
   pub flat : Flat
   pub under : Environment
@@ -35,6 +35,7 @@ pub record Context : Type 0 where
   pub callers : List Frame
   pub more : List (List Object)
   pub call : ℕ
+  pub globals : List ℕ
   pub variables : List ℕ
   pub start : ℕ → ℕ
   pub pools : ℕ → ℕ
@@ -90,6 +91,7 @@ module _ (c : Context) where
     pub typed : IsTypedStore c.flat.types c.under.widths made s.store
     pub inside : IsInside c.call s.store
     pub declares : slice_index_or made.calls c.call [] ≡ c.variables
+    pub globals : made.globals ≡ c.globals
     pub temporaries : (ty index i : ℕ) → index < c.pools ty → first + i ≡ c.start ty + index → IsTemporary ts i
 
   pub grounded : (made : StoreTyping) (s : Progress) (ts : List Object) → IsReady made s ts → IsGroundedStore (counts made) s.store

@@ -49,7 +49,7 @@ pub truth_back : (b : Bool) (s : Progress) (go : Bool → Progress → Outcome) 
 truth_back true s go = refl
 truth_back false s go = refl
 
-int_of_number : (P : ℤ → Type 0) (v : Value) → IsNumber P v → IsInt v
+pub int_of_number : (P : ℤ → Type 0) (v : Value) → IsNumber P v → IsInt v
 int_of_number P (number z) h = tt
 int_of_number P null h = absurd h
 int_of_number P (pointer home leaf) h = absurd h
@@ -57,14 +57,14 @@ int_of_number P (past home leaf until) h = absurd h
 int_of_number P indeterminate h = tt
 
 -- a pointer, or null, or nothing
-abbrev IsPointerValue : Value → Type 0
+abbrev pub IsPointerValue : Value → Type 0
 IsPointerValue (number z) = ⊥
 IsPointerValue null = ⊤
 IsPointerValue (pointer home leaf) = ⊤
 IsPointerValue (past home leaf until) = ⊤
 IsPointerValue indeterminate = ⊤
 
-int_seen : (s : Store) (v : Value) → IsInt v → seen s v ≡ v
+pub int_seen : (s : Store) (v : Value) → IsInt v → seen s v ≡ v
 int_seen s (number z) h = refl
 int_seen s null h = absurd h
 int_seen s (pointer home leaf) h = absurd h
@@ -108,73 +108,17 @@ module _ (c : Context) where
       ))
       follows
 
-module _ (c : Context) (set : IsSetting c) (homes : AreHomes (commands c)) where
-  -- That code tests an operand, where control came to it: on at a label where it is true, and else behind the code.
-  abbrev pub TestFollows : (ty : ℕ) → (code : Operand → (l : ℕ) → InUse → Code) → Type 1
-  TestFollows ty code =
-      (o : Operand) (v : Value) (used used' : InUse) (l place q : ℕ) (made : StoreTyping) (from : List Object) (start : State) (first : List Mark) (s : Progress)
-      (va vb : Progress → Outcome) (near : Value → Progress → Type 0) (h : ComesTo c made used from start first place s)
-      → IsAccepted (test_accepts ty) o → IsOperand c ty used' s h.temporaries o v → IsOf c h.later ty v → ((i : ℕ) → IsUsed c used i → IsUsed c used' i)
-      → ((t : ℕ) → (code o l used').most t ≤ c.pools t) → Stands (commands c) place (code o l used').commands → slice_get (commands c) q ≡ Some (command.Label l)
-      → (ComesTo c made used from start first q s → Follow c (va s) start first near)
-      → (ComesTo c made used from start first (place + length (code o l used').commands) s → Follow c (vb s) start first near)
-      → Follow c (with_truth (seen s.store v) s (λ holds s. either holds va vb s)) start first near
-
-  -- an int, where it stands
-  int_tested : (label : ℕ) → TestFollows INT (λ o l used. plain (command.If o l ∷ []) used label)
-  int_tested after o v used used' l place q made from start first s va vb near h fit operand of more room stands label when_true when_false =
-      let is_int =
-      int_of_number (InRange c set Int) (seen s.store v)
-      (is_number c set h.later INT Int (seen s.store v) (set.kinds Int) ((kept_types c set h.later s h.temporaries h.ready).values INT v of)) in
-      branch_follows c.flat c.under c.n c.function c.into c.callers c.more l place q o s (here c s h.temporaries place) s.marks stands.0 (homes l q label) (seen s.store v) va vb near
-      start first h.onward is_int
-      (number_is c set h.later s h.temporaries place INT Int used' o v None (set.kinds Int) (inl refl) h.ready operand of)
-      (λ on. when_true (record { later = h.later; adds = h.adds; temporaries = h.temporaries; onward = on; ready = h.ready; kept = h.kept }))
-      (λ on. when_false (record { later = h.later; adds = h.adds; temporaries = h.temporaries; onward = on; ready = h.ready; kept = h.kept }))
-      (refl, refl, refl)
-
+module _ (c : Context) (set : IsSetting c) where
   -- A command that makes the int of a truth value: `result` is what it gives.
-  record Makes (ty : ℕ) (make : (target : ℕ) → Operand → Command) (result : Store → Value → Result Value Act) : Type 0 where
-    makes : (d place : ℕ) (o : Operand) (v : Value) (made : StoreTyping) (s : Progress) (ts : List Object) (used : InUse) → IsVar o → IsReady c made s ts
+  pub record Makes (ty : ℕ) (make : (target : ℕ) → Operand → Command) (result : Store → Value → Result Value Act) : Type 0 where
+    pub makes : (d place : ℕ) (o : Operand) (v : Value) (made : StoreTyping) (s : Progress) (ts : List Object) (used : InUse) → IsVar o → IsReady c made s ts
         → IsOperand c ty used s ts o v → IsOf c made ty v → MayGo c INT (Some d) → slice_get (commands c) place ≡ Some (make d o)
         → Follow c (with_result (result s.store v) s (λ w s. Went w s)) (here c s ts place) s.marks (Arrives c INT made (Some d) used ts (here c s ts place) s.marks (place + 1))
-    truth : (made : StoreTyping) (s : Progress) (ts : List Object) (v : Value) (go : Bool → Progress → Outcome) → IsReady c made s ts → IsOf c made ty v
+    pub truth : (made : StoreTyping) (s : Progress) (ts : List Object) (v : Value) (go : Bool → Progress → Outcome) → IsReady c made s ts → IsOf c made ty v
         → with_result (result s.store v) s (λ w s. with_truth w s go) ≡ with_truth (seen s.store v) s go
 
-  abbrev pub made_code : (make : (target : ℕ) → Operand → Command) → Operand → (l : ℕ) → InUse → List Command
-  made_code make o l used = make (next_of c.start INT used) o ∷ command.If (Var (next_of c.start INT used)) l ∷ []
-
-  made_tested : (ty : ℕ) (make : (target : ℕ) → Operand → Command) (result : Store → Value → Result Value Act) → Makes ty make result
-      → ((o : Operand) → IsAccepted (test_accepts ty) o → IsVar o)
-      → (label : ℕ) → TestFollows ty (λ o l used. plain (made_code make o l used) (and_one INT used) label)
-  made_tested ty make result x var after o v used used' l place q made from start first s va vb near h fit operand of more room stands label when_true when_false =
-      let t = next_of c.start INT used' in
-      let inside = room_next c set INT used' room in
-      let end : place + 1 + 1 ≡ place + 2 = omega arith in
-      subst (λ out. Follow c out start first near) (x.truth h.later s h.temporaries v (λ holds s. either holds va vb s) h.ready of)
-      (follows_with c.flat c.under c.n (result s.store v) s (λ w s. with_truth w s (λ holds s. either holds va vb s)) start first _ near
-      (follows_from c.flat c.under c.n (with_result (result s.store v) s (λ w s. Went w s)) start (here c s h.temporaries place) first s.marks _ _ h.onward (λ w u y. y)
-      (x.makes t place o v h.later s h.temporaries used' (var o fit) h.ready operand of (temporary_type c set INT used' inside) stands.0))
-      (λ w far.
-      (let k = arrives_held c set INT used' used' h.later h.temporaries (here c s h.temporaries place) s.marks (place + 1) w s inside (room_before c set INT used' room) (λ i u. u) far in
-      let came : ComesTo c made used from start first (place + 1) s = record {
-        later = k.later;
-        adds = adds_both made h.later k.later h.adds k.adds;
-        temporaries = k.temporaries;
-        onward = then_on c start (here c s h.temporaries place) (here c s k.temporaries (place + 1)) first s.marks s.marks h.onward k.onward;
-        ready = k.ready;
-        kept = λ i u ne. k.kept i (more i u) ne ∙ h.kept i u ne;
-      } in
-      let is_int = int_of_number (InRange c set Int) w (is_number c set k.later INT Int w (set.kinds Int) k.value) in
-      let value_is = temporary_value c set k.later s k.temporaries (place + 1) k.index t INT w k.ready k.number k.holds k.value ∙ int_seen s.store w is_int in
-      branch_follows c.flat c.under c.n c.function c.into c.callers c.more l (place + 1) q (Var t) s (here c s k.temporaries (place + 1)) s.marks stands.1.0 (homes l q label) w va vb near
-      start first came.onward is_int value_is
-      (λ on. when_true (record { later = came.later; adds = came.adds; temporaries = came.temporaries; onward = on; ready = came.ready; kept = came.kept }))
-      (λ on. when_false (record { later = came.later; adds = came.adds; temporaries = came.temporaries; onward = rw end at on; ready = came.ready; kept = came.kept }))
-      (refl, refl, refl))))
-
   -- a value of a small kind is converted to int
-  small_made : (kind : Kind) → is_small (kind_number kind) ≡ true
+  pub small_made : (kind : Kind) → is_small (kind_number kind) ≡ true
       → Makes (kind_number kind) (λ t o. command.Cast t (var_of o)) (λ s v. if_number (seen s v) (λ z. as_value (converted Int c.under.widths z)))
   small_made kind small =
       record {
@@ -227,7 +171,7 @@ module _ (c : Context) (set : IsSetting c) (homes : AreHomes (commands c)) where
       truth_of s (past home leaf until) go range = absurd range
       truth_of s indeterminate go range = refl
 
-  pointer_is : (made : StoreTyping) (ty to : ℕ) (v : Value) → slice_get c.flat.types ty ≡ Some (Pointer to) → IsOf c made ty v → IsPointerValue v
+  pub pointer_is : (made : StoreTyping) (ty to : ℕ) (v : Value) → slice_get c.flat.types ty ≡ Some (Pointer to) → IsOf c made ty v → IsPointerValue v
   pointer_is made ty to (number z) shape of = (let wrong = sym shape ∙ of.1 in cc)
   pointer_is made ty to null shape of = tt
   pointer_is made ty to (pointer home leaf) shape of = tt
@@ -266,26 +210,83 @@ module _ (c : Context) (set : IsSetting c) (homes : AreHomes (commands c)) where
         | inr w ↦ w.0
       ]
 
-  pointer_not_small : (ty to : ℕ) → slice_get c.flat.types ty ≡ Some (Pointer to) → is_small ty ≡ false
+  pub pointer_not_small : (ty to : ℕ) → slice_get c.flat.types ty ≡ Some (Pointer to) → is_small ty ≡ false
   pointer_not_small zero to shape = absurd (never_kind 0 to Char shape refl)
   pointer_not_small (suc zero) to shape = absurd (never_kind 1 to UChar shape refl)
   pointer_not_small (suc (suc zero)) to shape = absurd (never_kind 2 to Short shape refl)
   pointer_not_small (suc (suc (suc zero))) to shape = absurd (never_kind 3 to UShort shape refl)
   pointer_not_small (suc (suc (suc (suc n)))) to shape = grind (arith, nat_tests)
 
+module _ (c : Context) (set : IsSetting c) (homes : AreHomes (commands c)) where
+  -- That code tests an operand, where control came to it: on at a label where it is true, and else behind the code.
+  abbrev pub TestFollows : (ty : ℕ) → (code : Operand → (l : ℕ) → InUse → Code) → Type 1
+  TestFollows ty code =
+      (o : Operand) (v : Value) (used used' : InUse) (l place q : ℕ) (made : StoreTyping) (from : List Object) (start : State) (first : List Mark) (s : Progress)
+      (va vb : Progress → Outcome) (near : Value → Progress → Type 0) (h : ComesTo c made used from start first place s)
+      → IsAccepted (test_accepts ty) o → IsOperand c ty used' s h.temporaries o v → IsOf c h.later ty v → ((i : ℕ) → IsUsed c used i → IsUsed c used' i)
+      → ((t : ℕ) → (code o l used').most t ≤ c.pools t) → Stands (commands c) place (code o l used').commands → slice_get (commands c) q ≡ Some (command.Label l)
+      → (ComesTo c made used from start first q s → Follow c (va s) start first near)
+      → (ComesTo c made used from start first (place + length (code o l used').commands) s → Follow c (vb s) start first near)
+      → Follow c (with_truth (seen s.store v) s (λ holds s. either holds va vb s)) start first near
+
+  -- an int, where it stands
+  int_tested : (label : ℕ) → TestFollows INT (λ o l used. plain (command.If o l ∷ []) used label)
+  int_tested after o v used used' l place q made from start first s va vb near h fit operand of more room stands label when_true when_false =
+      let is_int =
+      int_of_number (InRange c set Int) (seen s.store v)
+      (is_number c set h.later INT Int (seen s.store v) (set.kinds Int) ((kept_types c set h.later s h.temporaries h.ready).values INT v of)) in
+      branch_follows c.flat c.under c.n c.function c.into c.callers c.more l place q o s (here c s h.temporaries place) s.marks stands.0 (homes l q label) (seen s.store v) va vb near
+      start first h.onward is_int
+      (number_is c set h.later s h.temporaries place INT Int used' o v None (set.kinds Int) (inl refl) h.ready operand of)
+      (λ on. when_true (record { later = h.later; adds = h.adds; temporaries = h.temporaries; onward = on; ready = h.ready; kept = h.kept }))
+      (λ on. when_false (record { later = h.later; adds = h.adds; temporaries = h.temporaries; onward = on; ready = h.ready; kept = h.kept }))
+      (refl, refl, refl)
+
+  abbrev pub made_code : (make : (target : ℕ) → Operand → Command) → Operand → (l : ℕ) → InUse → List Command
+  made_code make o l used = make (next_of c.start INT used) o ∷ command.If (Var (next_of c.start INT used)) l ∷ []
+
+  made_tested : (ty : ℕ) (make : (target : ℕ) → Operand → Command) (result : Store → Value → Result Value Act) → Makes c set ty make result
+      → ((o : Operand) → IsAccepted (test_accepts ty) o → IsVar o)
+      → (label : ℕ) → TestFollows ty (λ o l used. plain (made_code make o l used) (and_one INT used) label)
+  made_tested ty make result x var after o v used used' l place q made from start first s va vb near h fit operand of more room stands label when_true when_false =
+      let t = next_of c.start INT used' in
+      let inside = room_next c set INT used' room in
+      let end : place + 1 + 1 ≡ place + 2 = omega arith in
+      subst (λ out. Follow c out start first near) (x.truth h.later s h.temporaries v (λ holds s. either holds va vb s) h.ready of)
+      (follows_with c.flat c.under c.n (result s.store v) s (λ w s. with_truth w s (λ holds s. either holds va vb s)) start first _ near
+      (follows_from c.flat c.under c.n (with_result (result s.store v) s (λ w s. Went w s)) start (here c s h.temporaries place) first s.marks _ _ h.onward (λ w u y. y)
+      (x.makes t place o v h.later s h.temporaries used' (var o fit) h.ready operand of (temporary_type c set INT used' inside) stands.0))
+      (λ w far.
+      (let k = arrives_held c set INT used' used' h.later h.temporaries (here c s h.temporaries place) s.marks (place + 1) w s inside (room_before c set INT used' room) (λ i u. u) far in
+      let came : ComesTo c made used from start first (place + 1) s = record {
+        later = k.later;
+        adds = adds_both made h.later k.later h.adds k.adds;
+        temporaries = k.temporaries;
+        onward = then_on c start (here c s h.temporaries place) (here c s k.temporaries (place + 1)) first s.marks s.marks h.onward k.onward;
+        ready = k.ready;
+        kept = λ i u ne. k.kept i (more i u) ne ∙ h.kept i u ne;
+      } in
+      let is_int = int_of_number (InRange c set Int) w (is_number c set k.later INT Int w (set.kinds Int) k.value) in
+      let value_is = temporary_value c set k.later s k.temporaries (place + 1) k.index t INT w k.ready k.number k.holds k.value ∙ int_seen s.store w is_int in
+      branch_follows c.flat c.under c.n c.function c.into c.callers c.more l (place + 1) q (Var t) s (here c s k.temporaries (place + 1)) s.marks stands.1.0 (homes l q label) w va vb near
+      start first came.onward is_int value_is
+      (λ on. when_true (record { later = came.later; adds = came.adds; temporaries = came.temporaries; onward = on; ready = came.ready; kept = came.kept }))
+      (λ on. when_false (record { later = came.later; adds = came.adds; temporaries = came.temporaries; onward = rw end at on; ready = came.ready; kept = came.kept }))
+      (refl, refl, refl))))
+
   -- the code of a test, by the type
   abbrev pub BranchFollows : ℕ → (label : ℕ) → Type 1
   BranchFollows ty label = TestFollows ty (λ o l used. branch_on c.start ty o l used label)
 
   kind_tested : (kind : Kind) (label : ℕ) → BranchFollows (kind_number kind) label
-  kind_tested Char label = made_tested (kind_number Char) (λ t o. command.Cast t (var_of o)) _ (small_made Char refl) (λ o fit. never_constant o fit) label
-  kind_tested UChar label = made_tested (kind_number UChar) (λ t o. command.Cast t (var_of o)) _ (small_made UChar refl) (λ o fit. never_constant o fit) label
-  kind_tested Short label = made_tested (kind_number Short) (λ t o. command.Cast t (var_of o)) _ (small_made Short refl) (λ o fit. never_constant o fit) label
-  kind_tested UShort label = made_tested (kind_number UShort) (λ t o. command.Cast t (var_of o)) _ (small_made UShort refl) (λ o fit. never_constant o fit) label
+  kind_tested Char label = made_tested (kind_number Char) (λ t o. command.Cast t (var_of o)) _ (small_made c set Char refl) (λ o fit. never_constant o fit) label
+  kind_tested UChar label = made_tested (kind_number UChar) (λ t o. command.Cast t (var_of o)) _ (small_made c set UChar refl) (λ o fit. never_constant o fit) label
+  kind_tested Short label = made_tested (kind_number Short) (λ t o. command.Cast t (var_of o)) _ (small_made c set Short refl) (λ o fit. never_constant o fit) label
+  kind_tested UShort label = made_tested (kind_number UShort) (λ t o. command.Cast t (var_of o)) _ (small_made c set UShort refl) (λ o fit. never_constant o fit) label
   kind_tested Int label = int_tested label
-  kind_tested UInt label = made_tested (kind_number UInt) (λ t o. command.Ne t o (Constant (pos 0))) _ (wide_made UInt refl) (λ o fit. never_constant o fit) label
-  kind_tested Long label = made_tested (kind_number Long) (λ t o. command.Ne t o (Constant (pos 0))) _ (wide_made Long refl) (λ o fit. never_constant o fit) label
-  kind_tested ULong label = made_tested (kind_number ULong) (λ t o. command.Ne t o (Constant (pos 0))) _ (wide_made ULong refl) (λ o fit. never_constant o fit) label
+  kind_tested UInt label = made_tested (kind_number UInt) (λ t o. command.Ne t o (Constant (pos 0))) _ (wide_made c set UInt refl) (λ o fit. never_constant o fit) label
+  kind_tested Long label = made_tested (kind_number Long) (λ t o. command.Ne t o (Constant (pos 0))) _ (wide_made c set Long refl) (λ o fit. never_constant o fit) label
+  kind_tested ULong label = made_tested (kind_number ULong) (λ t o. command.Ne t o (Constant (pos 0))) _ (wide_made c set ULong refl) (λ o fit. never_constant o fit) label
 
   -- by what is known of the type's number
   abbrev test_by : (is_int small : Bool) → Operand → (l : ℕ) → InUse → (label : ℕ) → Code
@@ -301,11 +302,11 @@ module _ (c : Context) (set : IsSetting c) (homes : AreHomes (commands c)) where
 
   pointer_tested : (ty to label : ℕ) → slice_get c.flat.types ty ≡ Some (Pointer to) → BranchFollows ty label
   pointer_tested ty to label shape =
-      let no_int = pointer_no_int ty to shape in
-      let no_small = pointer_not_small ty to shape in
+      let no_int = pointer_no_int c set ty to shape in
+      let no_small = pointer_not_small c set ty to shape in
       subst (λ small. TestFollows ty (λ o l used. test_by (nat_eq ty INT) small o l used label)) (sym no_small)
       (subst (λ is_int. TestFollows ty (λ o l used. test_by is_int false o l used label)) (sym no_int)
-      (made_tested ty (λ t o. command.Ne t o (Constant (pos 0))) _ (pointer_made ty to shape) (λ o fit. accepts_by (nat_eq ty INT) o no_int fit) label))
+      (made_tested ty (λ t o. command.Ne t o (Constant (pos 0))) _ (pointer_made c set ty to shape) (λ o fit. accepts_by (nat_eq ty INT) o no_int fit) label))
 
   pub branch_on_follows : (ty label : ℕ) → IsScalar (slice_get c.flat.types ty) → BranchFollows ty label
   branch_on_follows ty label scalar = by (slice_get c.flat.types ty) refl scalar

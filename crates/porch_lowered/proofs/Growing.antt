@@ -72,7 +72,7 @@ module _ (p : Program) (start : ℕ → ℕ) where
   shape_grows (Some (Struct members)) None struct direct indirect f g h = f
   shape_grows (Some (Struct members)) (Some v) struct direct indirect f g h = f
 
-  read_grows : (ty : ℕ) (pointer : Option Operand) (pointer_ty : ℕ) (place : Coder) → Grows place → Grows (read_code p start ty pointer pointer_ty place)
+  pub read_grows : (ty : ℕ) (pointer : Option Operand) (pointer_ty : ℕ) (place : Coder) → Grows place → Grows (read_code p start ty pointer pointer_ty place)
   read_grows ty pointer pointer_ty place g to used label t =
       hold_behind to ty pointer (next p start pointer_ty (with_target p start to ty used)) pointer_ty place g used label t
 
@@ -85,7 +85,7 @@ module _ (p : Program) (start : ℕ → ℕ) where
   converts_grow true a b x t g h = g
   converts_grow false a b x t g h = h
 
-  convert_grows : (kind : ℕ) (z : Option ℤ) (ty : ℕ) (lacks : Bool) (in_place : Option Operand) (value : Coder) → Grows value
+  pub convert_grows : (kind : ℕ) (z : Option ℤ) (ty : ℕ) (lacks : Bool) (in_place : Option Operand) (value : Coder) → Grows value
       → Grows (convert_to p start kind z ty lacks in_place value)
   convert_grows kind (Some z) ty lacks in_place value g to used label t = same (used t)
   convert_grows kind None ty lacks in_place value g to used label t =
@@ -211,7 +211,7 @@ module _ (p : Program) (start : ℕ → ℕ) where
     code_grows (tree.release e) to used label t = hold_grows _ _ _ (code p start e) (code_grows e) used label t
     code_grows tree.checkpoint to used label t = same (used t)
 
-    place_code_grows : (place : Place) (behind : Option ℕ) → Grows (place_code p start place behind)
+    pub place_code_grows : (place : Place) (behind : Option ℕ) → Grows (place_code p start place behind)
     place_code_grows (tree.variable v) behind to used label t = same (used t)
     place_code_grows (tree.global g) behind to used label t = same (used t)
     place_code_grows (tree.pointee e) None to used label t = code_grows e to used label t

@@ -17,7 +17,7 @@ use Rattle.porch_lowered.proofs.States.{Stands}
 use Rattle.porch_lowered.proofs.Growing.{Grows}
 use Rattle.porch_lowered.proofs.Codes.{Context, commands, here, IsOf, On, Follow, IsUsed, Keeps, IsReady, Arrives, arrives_from, Taken, Evaluates}
 use Rattle.porch_lowered.proofs.Holding.{IsSetting, evaluates_hold, room_grown, room_next, used_before, one_is_used, temporary_type}
-use Rattle.porch_lowered.proofs.Operands.{IsOperand}
+use Rattle.porch_lowered.proofs.Operands.{InTemporary, IsOperand, IsSteady}
 
 -- a value that is used at once
 abbrev pub use_now : Value → Progress → Outcome
@@ -127,7 +127,10 @@ module _ (c : Context) where
       → ((v : Value) (u : Progress)
       → (h : IsHeld ty made used (hold o (next_of c.start ty used) ty coder used label).used ts (here c s ts place) s.marks
       (place + length (hold o (next_of c.start ty used) ty coder used label).code.commands) (hold o (next_of c.start ty used) ty coder used label).operand v u)
-      → Other h.later (hold o (next_of c.start ty used) ty coder used label).used u h.temporaries → IfHeld o (Is v u)
+      → Other h.later (hold o (next_of c.start ty used) ty coder used label).used u h.temporaries
+      → IfHeld o
+      (Is v u
+      × IsSteady c ty (hold o (next_of c.start ty used) ty coder used label).used h.temporaries (hold o (next_of c.start ty used) ty coder used label).operand v)
       → Follow c (go v u) (here c s ts place) s.marks near)
       → Follow c (and_then (value s) go) (here c s ts place) s.marks near
   hold_then set ty (Some o) Is Other value coder go evaluates grows stands_there used label place made s ts near ready strict carries room stands k =
@@ -156,6 +159,13 @@ module _ (c : Context) where
       (evaluates_hold c set Is ty value coder evaluates grows used label place made s ts ready room stands)
       (λ v u both.
       (let h = both.0 in
+      let held : InTemporary c ty (and_one ty used) h.temporaries t v = record {
+        of_type = temporary_type c set ty used inside;
+        index = h.index;
+        number = h.number;
+        is_used = record { ty = ty; index = used ty; less = one_is_used c set ty used; number = sym h.number };
+        holds = h.holds;
+      } in
       k v u
       (record {
         later = h.later;
@@ -165,14 +175,7 @@ module _ (c : Context) where
         ready = h.ready;
         value = h.value;
         kept = h.kept;
-        operand =
-            inl (record {
-              of_type = temporary_type c set ty used inside;
-              index = h.index;
-              number = h.number;
-              is_used = record { ty = ty; index = used ty; less = one_is_used c set ty used; number = sym h.number };
-              holds = h.holds;
-            });
+        operand = inl held;
         more = λ i u. used_before c set ty used i u;
       })
-      (carries h.later u h.temporaries h.adds h.kept) both.1))
+      (carries h.later u h.temporaries h.adds h.kept) (both.1, held)))

@@ -5,8 +5,9 @@ use Rattle.std.specs.Prelude.{⊤, slice_get, IsTrue, ◌||◌, Ok}
 use Rattle.porch_types.specs.declared.shapes.Kind.{Kind}
 use Rattle.porch_types.specs.declared.shapes.Ty.TheVariants.{Whole}
 use Rattle.porch_types.specs.Kinds.{kind_number}
-use Rattle.porch_types.specs.Leaves.{IsTypes}
+use Rattle.porch_types.specs.Leaves.{IsTypes, leaves_of}
 use Rattle.porch_types.specs.LeafTypes.{IsScalar, leaf_type}
+use Rattle.porch_types.specs.Rows.{IsSubobject}
 use Rattle.porch_values.specs.declared.acts.Op.{Op}
 use Rattle.porch_values.specs.Integers.{applied, complemented, converted, is_value_of}
 use Rattle.porch_objects.specs.Store.{of_call, Value, Object, seen, leaf_at, with_leaf_at}
@@ -38,7 +39,10 @@ pub record IsSetting (c : Context) : Type 0 where
   pub are : IsTypes c.flat.types
   pub kinds : (kind : Kind) → slice_get c.flat.types (kind_number kind) ≡ Some (Whole kind)
   pub whole : (ty : ℕ) (kind : Kind) → slice_get c.flat.types ty ≡ Some (Whole kind) → ty ≡ kind_number kind
+  pub nest : (root count place ty inner pointee : ℕ) → IsSubobject c.flat.types root count place ty → IsSubobject c.flat.types ty 1 inner pointee
+      → IsSubobject c.flat.types root count (place + inner) pointee
   pub scalar_leaf : (ty leaf : ℕ) → IsScalar (slice_get c.flat.types ty) → leaf_type c.flat.types ty leaf ≡ ty
+  pub scalar_size : (ty : ℕ) → IsScalar (slice_get c.flat.types ty) → leaves_of c.flat.types ty ≡ 1
   pub keeps : KeepTypes
   pub some_width : IsTrue (c.under.widths.narrow || c.under.widths.wide)
   pub converts : (kind : Kind) (z w : ℤ) → converted kind c.under.widths z ≡ Ok w → IsTrue (is_value_of kind c.under.widths w)
@@ -89,6 +93,7 @@ module _ (c : Context) (set : IsSetting c) where
         typed = ready.typed;
         inside = ready.inside;
         declares = ready.declares;
+        globals = ready.globals;
         temporaries = λ ty index j less e. still_temporary ts i j v (ready.temporaries ty index j less e);
       }
 

@@ -46,6 +46,8 @@ pub mod OperatorCode
 pub mod Held
 -- single forms
 pub mod Forms
+-- what is alive where an object is changed
+pub mod Alive
 -- operators use both operands
 pub mod Strict
 -- values as the store typing grows
@@ -72,14 +74,32 @@ pub mod Conditions
 pub mod Tests
 -- `&&` and `||`
 pub mod Logic
+-- forms with one operand, as the induction has them
+pub mod Forming
+-- `!`
+pub mod Negations
 -- `?:`
 pub mod Choices
 -- values that are dropped, and commas
 pub mod Commas
 -- expressions that are operands where they stand
 pub mod Atoms
+-- values that are there
+pub mod Present
+-- variables of the source that are read
+pub mod Variables
+-- places, as the induction has them
+pub mod Located
+-- the cases of the induction that make a value of others
+pub mod Cases
 -- what is read, and conversions
 pub mod Converted
+-- the cases of the induction that make a value of a place
+pub mod PlaceCases
+-- further cases
+pub mod MoreCases
+-- assignments, as the induction has them
+pub mod Assigned
 -- what is stored
 pub mod Stores
 -- variables that are assigned to

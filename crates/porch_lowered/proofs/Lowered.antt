@@ -7,11 +7,12 @@ use Rattle.porch_objects.specs.Meaning.{Progress}
 use Rattle.porch_flat.specs.declared.flat.Operand.{Operand}
 use Rattle.porch_flat.specs.declared.flat.Operand.TheVariants.{Constant}
 use Rattle.porch_typed.specs.Mirror.{Expression, Expressions, Steps, Program, no_expressions, with_expression, no_steps, with_step}
+use Rattle.porch_typed.specs.Mirror as tree
 use Rattle.porch_mean.specs.Outcome.{Outcome, Calls}
 use Rattle.porch_mean.specs.Expression.{value}
 use Rattle.porch_lowering.specs.Code.{InUse}
-use Rattle.porch_lowering.specs.Values.{type_held, may_lack, constant_of, variable_read, Accepts, constant_operand, operand_or, atom_of}
-use Rattle.porch_lowering.specs.Expression.{writes_last, code}
+use Rattle.porch_lowering.specs.Values.{type_held, may_lack, last_may_lack, constant_of, variable_read, Accepts, constant_operand, operand_or, atom_of}
+use Rattle.porch_lowering.specs.Expression.{writes_last, last_writes_last, code}
 use Rattle.porch_lowered.proofs.Codes.{Context, IsTaken, Taken, Evaluates, IsPresent}
 use Rattle.porch_lowered.proofs.Held.{InPlace}
 use Rattle.porch_lowered.proofs.OperatorCode.{IsAccepted}
@@ -81,3 +82,38 @@ module _ (c : Context) where
     to_temporary e x None used label place made s ts ready taken may room stands = absurd taken
     to_temporary e x (Some d) used label place made s ts ready taken may room stands =
         x.evaluates (Some d) used label place made s ts ready (inl taken) may room stands
+
+-- What writes its variable last is there when it comes.
+mutual
+  pub writes_there : (p : Program) (e : Expression) → writes_last p e ≡ true → may_lack e ≡ false
+  writes_there p (tree.constant kind z) h = refl
+  writes_there p (tree.null_pointer ty) h = refl
+  writes_there p (tree.read ty place) h = refl
+  writes_there p (tree.whole ty place) h = refl
+  writes_there p (tree.address ty place) h = refl
+  writes_there p (tree.first ty place) h = refl
+  writes_there p (tree.row e steps) h = refl
+  writes_there p (tree.all_of e es) h = refl
+  writes_there p (tree.any_of e es) h = refl
+  writes_there p (tree.unary op kind e) h = refl
+  writes_there p (tree.isnt e) h = refl
+  writes_there p (tree.choice ty e a b) h = cc
+  writes_there p (tree.sequence e es) h = last_there p es (writes_last p e) (may_lack e) (λ k. writes_there p e k) h
+  writes_there p (tree.assign ty place e) h = refl
+  writes_there p (tree.assign_by ty op place e) h = refl
+  writes_there p (tree.increment ty before way place) h = refl
+  writes_there p (tree.conversion kind e) h = refl
+  writes_there p (tree.discard e) h = refl
+  writes_there p (tree.member_of ty leaf e) h = refl
+  writes_there p (tree.call function es) h = cc
+  writes_there p (tree.put_character e) h = refl
+  writes_there p (tree.put_text e) h = refl
+  writes_there p (tree.put_literal bs) h = refl
+  writes_there p (tree.print xs) h = refl
+  writes_there p (tree.allocate ty zeroed e) h = refl
+  writes_there p (tree.release e) h = refl
+  writes_there p tree.checkpoint h = refl
+
+  last_there : (p : Program) (es : Expressions) (writes lacks : Bool) → (writes ≡ true → lacks ≡ false) → last_writes_last p es writes ≡ true → last_may_lack es lacks ≡ false
+  last_there p no_expressions writes lacks k h = k h
+  last_there p (with_expression e es) writes lacks k h = last_there p es (writes_last p e) (may_lack e) (λ k. writes_there p e k) h

@@ -53,7 +53,7 @@ never_constant (Var x) h = tt
 never_constant (Constant z) h = cc
 
 module _ (c : Context) (set : IsSetting c) where
-  fits : (kind : Kind) (o : Operand) → IsAccepted (constant_in kind) o → Fits c set kind o
+  pub fits : (kind : Kind) (o : Operand) → IsAccepted (constant_in kind) o → Fits c set kind o
   fits kind (Var x) h = tt
   fits kind (Constant z) h = narrow_fits kind c.under.widths z h
 

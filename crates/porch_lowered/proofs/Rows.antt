@@ -228,7 +228,9 @@ module _ (c : Context) (set : IsSetting c) (p : Program) (same : c.flat.types �
         is_used = record { ty = result; index = free result; less = one_is_used c set result free; number = sym h.number };
         holds = h.holds;
       } in
-      follows_from c.flat c.under c.n (value_behind p c.under enter c.call rest w u) (here c s ts place) (here c u h.temporaries last) s.marks u.marks _ _ h.onward
+      follows_from c.flat c.under c.n (value_behind p c.under enter c.call rest w u) (here c s ts place) (here c u h.temporaries last) s.marks u.marks
+      (Arrives c ty made to free ts (here c s ts place) s.marks (place + length (right.code.commands ++ (x.commands ++ y.commands))))
+      (Arrives c ty h.later to free h.temporaries (here c u h.temporaries last) u.marks (last + length y.commands)) h.onward
       (λ z u' further.
       rw (← end)
       (arrives_from c ty made h.later to free ts h.temporaries (here c s ts place) (here c u h.temporaries last) s.marks u.marks (last + length y.commands) z u'
