@@ -76,7 +76,7 @@ module _ (p : Program) (start : ℕ → ℕ) where
   read_grows ty pointer pointer_ty place g to used label t =
       hold_behind to ty pointer (next p start pointer_ty (with_target p start to ty used)) pointer_ty place g used label t
 
-  already_grows : (lacks : Bool) (kind : ℕ) (value : Coder) → Grows value → Grows (converted_already p start lacks kind value)
+  pub already_grows : (lacks : Bool) (kind : ℕ) (value : Coder) → Grows value → Grows (converted_already p start lacks kind value)
   already_grows true kind value g to used label t =
       through (used t) (with_target p start to kind used t) _ (target_grows to kind used t) (g _ (with_target p start to kind used) label t)
   already_grows false kind value g to used label t = g to used label t

@@ -100,6 +100,8 @@ pub mod PlaceCases
 pub mod MoreCases
 -- assignments, as the induction has them
 pub mod Assigned
+-- `free` and `checkpoint()`
+pub mod Blocks
 -- what is stored
 pub mod Stores
 -- variables that are assigned to
@@ -110,3 +112,5 @@ pub mod Unary
 pub mod Copies
 -- what has no value: checkpoints, and declarations that are reached
 pub mod Valueless
+-- an expression whose cases fit together
+pub mod Composed

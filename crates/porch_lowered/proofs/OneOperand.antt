@@ -58,7 +58,7 @@ module _ (c : Context) (set : IsSetting c) where
   one_code ty o coder make d used label =
       let x = hold o (next_of c.start ty used) ty coder used label in then_commands x.code (make d (var_of x.operand) ∷ [])
 
-  variable_held : (o : Option Operand) (t ty : ℕ) (coder : Coder) (used : InUse) (label : ℕ) → IsVariable o
+  pub variable_held : (o : Option Operand) (t ty : ℕ) (coder : Coder) (used : InUse) (label : ℕ) → IsVariable o
       → (x : ℕ) × ((hold o t ty coder used label).operand ≡ Var x)
   variable_held None t ty coder used label h = (t, refl)
   variable_held (Some (Var x)) t ty coder used label h = (x, refl)

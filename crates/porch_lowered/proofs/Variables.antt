@@ -20,14 +20,14 @@ use Rattle.porch_lowered.proofs.Commands.{command_follows}
 use Rattle.porch_lowered.proofs.Held.{use_now}
 use Rattle.porch_lowered.proofs.Atoms.{variable_typed}
 
-moved_there : (x : Value) (go : Value → Next) → determined x go ≡ if_ok (if_there x (λ v. let r : Result Value Act = Ok v in r)) go
+pub moved_there : (x : Value) (go : Value → Next) → determined x go ≡ if_ok (if_there x (λ v. let r : Result Value Act = Ok v in r)) go
 moved_there (number z) go = refl
 moved_there null go = refl
 moved_there (pointer home leaf) go = refl
 moved_there (past home leaf until) go = refl
 moved_there indeterminate go = refl
 
-there_of : (P : Value → Type 0) (x : Value) → P x → Gives P (if_there x (λ v. let r : Result Value Act = Ok v in r))
+pub there_of : (P : Value → Type 0) (x : Value) → P x → Gives P (if_there x (λ v. let r : Result Value Act = Ok v in r))
 there_of P (number z) p = p
 there_of P null p = p
 there_of P (pointer home leaf) p = p
