@@ -48,7 +48,7 @@ accepted_if : (accepts : Accepts) (b : Bool) (o : Option Operand) → IsAccepted
 accepted_if accepts true o h = h
 accepted_if accepts false o h = tt
 
-in_place_if : (c : Context) (ty : ℕ) (b : Bool) (o : Option Operand) (value : Progress → Outcome) → InPlace c ty o value → InPlace c ty (if_in_place b o) value
+pub in_place_if : (c : Context) (ty : ℕ) (b : Bool) (o : Option Operand) (value : Progress → Outcome) → InPlace c ty o value → InPlace c ty (if_in_place b o) value
 in_place_if c ty true o value h = h
 in_place_if c ty false o value h = tt
 

@@ -112,5 +112,7 @@ pub mod Unary
 pub mod Copies
 -- what has no value: checkpoints, and declarations that are reached
 pub mod Valueless
+-- constants
+pub mod Constants
 -- an expression whose cases fit together
 pub mod Composed

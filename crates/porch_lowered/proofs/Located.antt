@@ -110,6 +110,68 @@ module _ (c : Context) where
   GoesThere last used None = ⊥
   GoesThere last used (Some d) = IsTaken c used d ⊎ (last ≡ true)
 
+module _ (c : Context) (set : IsSetting c) where
+  -- a value that went to a temporary is used there
+  pub used_there : (own : ℕ) (s u : Progress) (ts : List Object) (place m d : ℕ) (v : Value) (used : InUse) (made : StoreTyping) (taken : IsTaken c used d)
+      → Arrives c own made (Some d) used ts (here c s ts place) s.marks m v u → taken.is_used.index < c.pools taken.is_used.ty
+      → slice_get (commands c) m ≡ Some (command.Move d (Var d))
+      → Follow c (use_value v u (λ v s. Went v s)) (here c s ts place) s.marks
+      (λ w z. Arrives c own made (Some d) used ts (here c s ts place) s.marks (m + 1) w z × IsPresent w z)
+  used_there own s u ts place m d v used made taken far inside self = decide (seen u.store v) refl
+    where
+      i : ℕ
+      i = taken.index
+
+      ts1 : List Object
+      ts1 = with_temporary far.temporaries i v
+
+      ready1 : IsReady c far.later u ts1
+      ready1 = ready_with c set far.later u far.temporaries i v far.ready
+
+      value_is : variable_of d (here c u ts1 m) ≡ seen u.store v
+      value_is =
+          temporary_value c set far.later u ts1 m i d own v ready1 taken.number
+          (same_temporary far.temporaries i v (far.ready.temporaries taken.is_used.ty taken.is_used.index i inside taken.is_used.number)) far.value
+
+      on1 : On c (here c s ts place) s.marks (here c u ts1 m) u.marks
+      on1 = rw (put_temporary c set far.later u far.temporaries m i d v far.ready taken.number) at far.onward
+
+      Near : Value → Type 0
+      Near w = Arrives c own made (Some d) used ts (here c s ts place) s.marks (m + 1) w u × IsPresent w u
+
+      it : (w : Value) → seen u.store v ≡ w → (w ≡ indeterminate → ⊥) → seen u.store v ≡ v → Near v
+      it w is there same = (
+        record {
+          later = far.later;
+          adds = far.adds;
+          temporaries = far.temporaries;
+          onward =
+              subst (λ x. On c (here c s ts place) s.marks x u.marks) (sym (put_temporary c set far.later u far.temporaries (m + 1) i d v far.ready taken.number))
+              (then_on c (here c s ts place) (here c u ts1 m) (here c u ts1 (m + 1)) s.marks u.marks u.marks on1 (self_goes c u ts1 m d w self (value_is ∙ is) there));
+          ready = far.ready;
+          value = far.value;
+          kept = far.kept;
+        },
+        (same, λ e. there (sym is ∙ same ∙ e)),
+      )
+
+      arrived_there : (w : Value) → seen u.store v ≡ w → (w ≡ indeterminate → ⊥) → Near w
+      arrived_there w is there =
+          elim (seen_or_not u.store v) [
+            | inl same ↦ (let e : v ≡ w = sym same ∙ is in subst (λ w. Near w) e (it w is there same))
+            | inr lost ↦ absurd (there (sym is ∙ lost))
+          ]
+
+      decide : (x : Value) → seen u.store v ≡ x
+          → Follow c (with_determinate x u (λ v s. Went v s)) (here c s ts place) s.marks
+          (λ w z. Arrives c own made (Some d) used ts (here c s ts place) s.marks (m + 1) w z × IsPresent w z)
+      decide (number z) is = arrived_there (number z) is (λ e. cc)
+      decide null is = arrived_there null is (λ e. cc)
+      decide (pointer home leaf) is = arrived_there (pointer home leaf) is (λ e. cc)
+      decide (past home leaf until) is = arrived_there (past home leaf until) is (λ e. cc)
+      decide indeterminate is =
+          ends_from c.flat c.under c.n (here c s ts place) (here c u ts1 m) s.marks u.marks (Met Indeterminate) u on1 (self_meets c u ts1 m d self (value_is ∙ is))
+
 module _ (c : Context) (set : IsSetting c) (p : Program) (enter : Calls) where
   abbrev pub place_means : Place → Progress → Outcome
   place_means place s = place_of p c.under enter c.call place s
@@ -260,67 +322,6 @@ module _ (c : Context) (set : IsSetting c) (p : Program) (enter : Calls) where
         let less = taken.is_used.less in
         omega (arith, grown, inside, less)
 
-    -- a value that went to a temporary is used there
-    used_there : (s u : Progress) (ts : List Object) (place m d : ℕ) (v : Value) (used : InUse) (made : StoreTyping) (taken : IsTaken c used d)
-        → Arrives c own made (Some d) used ts (here c s ts place) s.marks m v u → taken.is_used.index < c.pools taken.is_used.ty
-        → slice_get (commands c) m ≡ Some (command.Move d (Var d))
-        → Follow c (use_value v u (λ v s. Went v s)) (here c s ts place) s.marks
-        (λ w z. Arrives c own made (Some d) used ts (here c s ts place) s.marks (m + 1) w z × IsPresent w z)
-    used_there s u ts place m d v used made taken far inside self = decide (seen u.store v) refl
-      where
-        i : ℕ
-        i = taken.index
-
-        ts1 : List Object
-        ts1 = with_temporary far.temporaries i v
-
-        ready1 : IsReady c far.later u ts1
-        ready1 = ready_with c set far.later u far.temporaries i v far.ready
-
-        value_is : variable_of d (here c u ts1 m) ≡ seen u.store v
-        value_is =
-            temporary_value c set far.later u ts1 m i d own v ready1 taken.number
-            (same_temporary far.temporaries i v (far.ready.temporaries taken.is_used.ty taken.is_used.index i inside taken.is_used.number)) far.value
-
-        on1 : On c (here c s ts place) s.marks (here c u ts1 m) u.marks
-        on1 = rw (put_temporary c set far.later u far.temporaries m i d v far.ready taken.number) at far.onward
-
-        Near : Value → Type 0
-        Near w = Arrives c own made (Some d) used ts (here c s ts place) s.marks (m + 1) w u × IsPresent w u
-
-        it : (w : Value) → seen u.store v ≡ w → (w ≡ indeterminate → ⊥) → seen u.store v ≡ v → Near v
-        it w is there same = (
-          record {
-            later = far.later;
-            adds = far.adds;
-            temporaries = far.temporaries;
-            onward =
-                subst (λ x. On c (here c s ts place) s.marks x u.marks) (sym (put_temporary c set far.later u far.temporaries (m + 1) i d v far.ready taken.number))
-                (then_on c (here c s ts place) (here c u ts1 m) (here c u ts1 (m + 1)) s.marks u.marks u.marks on1 (self_goes c u ts1 m d w self (value_is ∙ is) there));
-            ready = far.ready;
-            value = far.value;
-            kept = far.kept;
-          },
-          (same, λ e. there (sym is ∙ same ∙ e)),
-        )
-
-        arrived_there : (w : Value) → seen u.store v ≡ w → (w ≡ indeterminate → ⊥) → Near w
-        arrived_there w is there =
-            elim (seen_or_not u.store v) [
-              | inl same ↦ (let e : v ≡ w = sym same ∙ is in subst (λ w. Near w) e (it w is there same))
-              | inr lost ↦ absurd (there (sym is ∙ lost))
-            ]
-
-        decide : (x : Value) → seen u.store v ≡ x
-            → Follow c (with_determinate x u (λ v s. Went v s)) (here c s ts place) s.marks
-            (λ w z. Arrives c own made (Some d) used ts (here c s ts place) s.marks (m + 1) w z × IsPresent w z)
-        decide (number z) is = arrived_there (number z) is (λ e. cc)
-        decide null is = arrived_there null is (λ e. cc)
-        decide (pointer home leaf) is = arrived_there (pointer home leaf) is (λ e. cc)
-        decide (past home leaf until) is = arrived_there (past home leaf until) is (λ e. cc)
-        decide indeterminate is =
-            ends_from c.flat c.under c.n (here c s ts place) (here c u ts1 m) s.marks u.marks (Met Indeterminate) u on1 (self_meets c u ts1 m d self (value_is ∙ is))
-
     -- where it may be missing it goes to a temporary, and is used there
     perhaps_there : may_lack e ≡ true
         → Evaluates c (GoesThere c (writes_last p e)) IsPresent own (λ s. and_then (means c p enter e s) (λ v s. use_value v s (λ v s. Went v s)))
@@ -336,7 +337,7 @@ module _ (c : Context) (set : IsSetting c) (p : Program) (enter : Calls) where
         let end : m + 1 ≡ place + length (x.commands ++ command.Move d (Var d) ∷ []) = simp length-append (omega arith) in
         follows_then c.flat c.under c.n (means c p enter e s) (λ v s. use_value v s (λ v s. Went v s)) (here c s ts place) s.marks _ _
         (lowered.evaluates (Some d) used label place made s ts ready (inl taken) may room (front_stands all place x.commands (command.Move d (Var d) ∷ []) stands))
-        (λ v u both. rw (← end) (used_there s u ts place m d v used made taken both.0 (room_inside used label d taken room) self.0))
+        (λ v u both. rw (← end) (used_there c set own s u ts place m d v used made taken both.0 (room_inside used label d taken room) self.0))
 
     -- the place of what it points to, and of a subobject in it
     pub pointee_located : IsLocated (tree.pointee e) ty

@@ -87,7 +87,7 @@ module _ (c : Context) (set : IsSetting c) (homes : AreHomes (commands c)) (p : 
       }
 
   -- what stands at a place that is no variable of the call
-  read_through : (ty : ℕ) (place : Place) → IsScalar (slice_get c.flat.types ty) → slice_get c.flat.types (place_type p c.start place ty) ≡ Some (Pointer ty)
+  pub read_through : (ty : ℕ) (place : Place) → IsScalar (slice_get c.flat.types ty) → slice_get c.flat.types (place_type p c.start place ty) ≡ Some (Pointer ty)
       → IsPointerFor c set p enter place ty (place_type p c.start place ty) → IsLocated c set p enter place ty
       → InPlace c (place_type p c.start place ty) (pointer_in place) (λ s. place_means c set p enter place s) → IsVariable (pointer_in place)
       → Evaluates c (Goes c true) (IsThereUnless false) ty (λ s. and_then (place_means c set p enter place s) (λ at s. load_at at s))

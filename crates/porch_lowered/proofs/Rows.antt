@@ -52,7 +52,7 @@ module _ (c : Context) (set : IsSetting c) (p : Program) (same : c.flat.types �
       (let l = u.less in record { ty = u.ty; index = u.index; less = omega (arith, l); number = u.number })
 
   -- a left operand while the right one is held
-  carries_left : (lt ty : ℕ) (o : Operand) (v : Value) (right : Option Operand) (made : StoreTyping) (used : InUse) (s : Progress) (ts : List Object)
+  pub carries_left : (lt ty : ℕ) (o : Operand) (v : Value) (right : Option Operand) (made : StoreTyping) (used : InUse) (s : Progress) (ts : List Object)
       → IsOperand c lt used s ts o v → IsOf c made lt v → (is_some right ≡ false → IsSteady c lt used ts o v)
       → Carries c right ty (λ later used u ts. IsOperand c lt used u ts o v × IsOf c later lt v) made used s ts
   carries_left lt ty o v None made used s ts x of steady =

@@ -128,7 +128,7 @@ pub strict_then : (go more : Value → Progress → Outcome) → IsStrict go →
 strict_then go more strict v s = sym (and_then_then (use_now v s) go more) ∙ ap (λ o. and_then o more) (strict v s)
 
 -- what follows a value that is used goes on in the same state
-same_behind : (v w : Value) (s : Progress) (f g : Value → Progress → Outcome) → ((x : Value) → f x s ≡ g x s)
+pub same_behind : (v w : Value) (s : Progress) (f g : Value → Progress → Outcome) → ((x : Value) → f x s ≡ g x s)
     → and_then (with_result (if_there w (λ v. Ok v)) s (λ v s. Went v s)) f ≡ and_then (with_result (if_there w (λ v. Ok v)) s (λ v s. Went v s)) g
 same_behind v (number z) s f g e = e (number z)
 same_behind v null s f g e = e null
