@@ -118,7 +118,7 @@ module _ (p : Program) (start : ℕ → ℕ) where
   change_place_grows ty op pointer pointer_ty place in_place right_ty right is_new g to used label t =
       first (used t) _ _ (hold_grows _ (next p start pointer_ty used) pointer_ty place g used label t)
 
-  member_grows : (shape : Option Ty) (ty leaf struct_ty : ℕ) (value : Coder) → Grows value → Grows (member_code p start shape ty leaf struct_ty value)
+  pub member_grows : (shape : Option Ty) (ty leaf struct_ty : ℕ) (value : Coder) → Grows value → Grows (member_code p start shape ty leaf struct_ty value)
   member_grows (Some (Struct members)) ty leaf struct_ty value g to used label t =
       hold_behind to _ None _ struct_ty value g used label t
   member_grows None ty leaf struct_ty value g to used label t = first (used t) _ _ (hold_behind to ty None _ struct_ty value g used label t)

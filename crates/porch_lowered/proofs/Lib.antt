@@ -100,6 +100,10 @@ pub mod PlaceCases
 pub mod MoreCases
 -- assignments, as the induction has them
 pub mod Assigned
+-- assignments through pointers, to globals and to members
+pub mod Assigning
+-- what is read and assigned there, as cases of the induction
+pub mod Pointed
 -- `free` and `checkpoint()`
 pub mod Blocks
 -- what is stored
