@@ -64,6 +64,8 @@ pub mod PointerCode
 pub mod PointerComparisons
 -- any operator on two operands
 pub mod Applied
+-- the types that lowering takes expressions to have
+pub mod Types
 -- what the induction over expressions says
 pub mod Lowered
 -- rows of operators
@@ -104,6 +106,10 @@ pub mod Assigned
 pub mod Assigning
 -- what is read and assigned there, as cases of the induction
 pub mod Pointed
+-- structs that are assigned
+pub mod Structs
+-- members of a struct that is no place
+pub mod MemberCases
 -- `free` and `checkpoint()`
 pub mod Blocks
 -- what is stored

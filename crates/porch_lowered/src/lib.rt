@@ -4,9 +4,9 @@
 //! `specs/Beside` has the store of the flat run beside that of the source, and `specs/Laws` what is the same in both. The
 //! rest is lemmas, in the order of `proofs/Lib`: runs with their marks, what it means that code follows an evaluation
 //! (`proofs/Codes`), and single forms, each with its parts as hypotheses. `proofs/Lowered` has what the induction over
-//! expressions says of one, and `proofs/Located` what it says of a place; the cases stand in `proofs/Cases`, `PlaceCases`,
-//! `MoreCases`, `Logic`, `Assigned` and `Blocks`. Not yet there: assignments through pointers and of structs, `op=`, `++` and
-//! `--`, members of values, calls, allocations, output, and statements; and the induction itself.
+//! expressions says of one, and `proofs/Located` what it says of a place. Its cases stand in `proofs/Cases`, `PlaceCases`,
+//! `MoreCases`, `Logic`, `Constants`, `Assigned`, `Pointed`, `Structs` and `Blocks`; `proofs/Composed` puts some together.
+//! Not yet there: `op=`, `++` and `--`, members of values, calls, allocations, output, and statements; and the induction.
 #![tactic(auto)]
 
 pub mod laws;
