@@ -108,7 +108,7 @@ pub mod Assigning
 pub mod Pointed
 -- structs that are assigned
 pub mod Structs
--- members of a struct that is no place
+-- members of a struct that is no place, as cases of the induction
 pub mod MemberCases
 -- `free` and `checkpoint()`
 pub mod Blocks

@@ -5,8 +5,8 @@
 //! rest is lemmas, in the order of `proofs/Lib`: runs with their marks, what it means that code follows an evaluation
 //! (`proofs/Codes`), and single forms, each with its parts as hypotheses. `proofs/Lowered` has what the induction over
 //! expressions says of one, and `proofs/Located` what it says of a place. Its cases stand in `proofs/Cases`, `PlaceCases`,
-//! `MoreCases`, `Logic`, `Constants`, `Assigned`, `Pointed`, `Structs` and `Blocks`; `proofs/Composed` puts some together.
-//! Not yet there: `op=`, `++` and `--`, members of values, calls, allocations, output, and statements; and the induction.
+//! `MoreCases`, `Logic`, `Constants`, `Assigned`, `Pointed`, `Structs`, `MemberCases` and `Blocks`; `proofs/Composed` puts
+//! some together. Not yet there: `op=`, `++` and `--`, calls, allocations, output, and statements; and the induction.
 #![tactic(auto)]
 
 pub mod laws;
