@@ -124,5 +124,7 @@ pub mod Copies
 pub mod Valueless
 -- constants
 pub mod Constants
+-- allocations
+pub mod Allocated
 -- an expression whose cases fit together
 pub mod Composed

@@ -6,7 +6,8 @@
 //! (`proofs/Codes`), and single forms, each with its parts as hypotheses. `proofs/Lowered` has what the induction over
 //! expressions says of one, and `proofs/Located` what it says of a place. Its cases stand in `proofs/Cases`, `PlaceCases`,
 //! `MoreCases`, `Logic`, `Constants`, `Assigned`, `Pointed`, `Structs`, `MemberCases` and `Blocks`; `proofs/Composed` puts
-//! some together. Not yet there: `op=`, `++` and `--`, calls, allocations, output, and statements; and the induction.
+//! some together. Not yet there: `op=`, `++` and `--`, calls, counts of allocations, output, and statements; and the
+//! induction.
 #![tactic(auto)]
 
 pub mod laws;
