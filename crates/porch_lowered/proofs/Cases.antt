@@ -1,4 +1,5 @@
--- The cases of the induction over expressions that make a value of others: each is as the induction has it where its parts are.
+-- The cases of the induction over expressions that make a value of others: each is as the induction has it where its
+-- parts are.
 use Rattle.std.proofs.Common.{◌≡◌, ℕ, ◌+◌, ℤ, pos, List, ◌++◌, length, refl, sym, ap, subst, arith, length-append, Bool, true, false, Option, Some, None}
 use Rattle.std.specs.Prelude.{is_some, slice_get, IsTrue, if◌then◌else◌}
 use Rattle.porch_types.specs.declared.shapes.Kind.{Kind}

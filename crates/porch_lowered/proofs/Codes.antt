@@ -25,7 +25,8 @@ pub at_most_right : (a b c : ℕ) → max a b ≤ c → b ≤ c
 at_most_right a b c h = omega (arith, h)
 
 -- A call of a function, in an environment and for n turns: its number, where its value goes, its callers and their
--- temporaries; the types of the globals and of its declared variables; where the pools of temporaries begin, and how many each has.
+-- temporaries; the types of the globals and of its declared variables; where the pools of temporaries begin, and how many
+-- each has.
 pub record Context : Type 0 where
   pub flat : Flat
   pub under : Environment

@@ -1,4 +1,5 @@
--- `&&` and `||`: the value that the tests decide stands in its temporary before them, and the other one is put there behind them.
+-- `&&` and `||`: the value that the tests decide stands in its temporary before them, and the other one is put there
+-- behind them.
 use Rattle.std.proofs.Common.{◌≡◌, ◌≤◌, ℕ, ◌+◌, ℤ, pos, List, [], ◌∷◌, ◌++◌, length, refl, sym, ap, subst, ◌∙◌, inl, inr, arith, length-append, true, false, Some}
 use Rattle.std.specs.Prelude.{⊤, slice_get, IsTrue}
 use Rattle.porch_types.specs.declared.shapes.Kind.{Kind}

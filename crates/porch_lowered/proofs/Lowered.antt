@@ -1,5 +1,5 @@
--- What the induction over expressions says of one: its code follows its evaluation wherever the value may go, and the value has its
--- type, and is there where the lowering takes it to be. The lemmas on single forms take this of their parts.
+-- What the induction over expressions says of one: its code follows its evaluation wherever the value may go, and the
+-- value has its type, and is there where the lowering takes it to be. The lemmas on single forms take this of their parts.
 use Rattle.std.proofs.Common.{◌≡◌, ℕ, ℤ, refl, Bool, true, false, ◌⊎◌, inl, Option, Some, None}
 use Rattle.std.specs.Prelude.{⊤, if◌then◌else◌}
 use Rattle.porch_objects.specs.Store.{Value}
@@ -40,8 +40,8 @@ pub accepted : (accepts : Accepts) (e : Expression) → IsAcceptedIn accepts (at
 accepted accepts e = accepted_or accepts (constant_of e) (variable_read e)
 
 module _ (c : Context) where
-  -- Where the value of an expression may go: nowhere, to a temporary in use, or to any variable where its code writes that in its last
-  -- command alone.
+  -- Where the value of an expression may go: nowhere, to a temporary in use, or to any variable where its code writes that
+  -- in its last command alone.
   abbrev pub Goes : (last : Bool) → InUse → Option ℕ → Type 0
   Goes last used None = ⊤
   Goes last used (Some d) = IsTaken c used d ⊎ (last ≡ true)

@@ -1,5 +1,5 @@
--- The cases of the induction over expressions that make a value of a place: what is read, pointers to places, structs and first
--- elements.
+-- The cases of the induction over expressions that make a value of a place: what is read, pointers to places, structs and
+-- first elements.
 use Rattle.std.proofs.Common.{◌≡◌, ℕ, ◌+◌, ◌*◌, refl, sym, ap, subst, ◌∙◌, inl, inr, arith, true, false, Some, None}
 use Rattle.std.specs.Prelude.{slice_get, List}
 use Rattle.porch_types.specs.declared.shapes.Ty.TheVariants.{Pointer, Array, Struct}
