@@ -37,7 +37,7 @@ there_stores s o call v (pointer home leaf) there = refl
 there_stores s o call v (past home leaf until) there = refl
 there_stores s o call v indeterminate there = absurd (there refl)
 
-store_is : (s : Store) (o : Object) (call v : ℕ) (w : Value) → object_at s (of_call call v) ≡ Some o → seen s w ≡ w → (w ≡ indeterminate → ⊥)
+pub store_is : (s : Store) (o : Object) (call v : ℕ) (w : Value) → object_at s (of_call call v) ≡ Some o → seen s w ≡ w → (w ≡ indeterminate → ⊥)
     → store s (pointer (of_call call v) 0) w ≡ Ok (with_leaf_at s (of_call call v) 0 w)
 store_is s o call v w lives e there =
     ap (λ x. stores_by s (object_at s (of_call call v)) call v x) e
@@ -45,7 +45,7 @@ store_is s o call v w lives e there =
     ∙ there_stores s o call v w there
 
 module _ (c : Context) (set : IsSetting c) where
-  put_is : (made : StoreTyping) (u : Progress) (ts : List Object) (place v ty : ℕ) (w : Value) → IsReady c made u ts → slice_get c.variables v ≡ Some ty
+  pub put_is : (made : StoreTyping) (u : Progress) (ts : List Object) (place v ty : ℕ) (w : Value) → IsReady c made u ts → slice_get c.variables v ≡ Some ty
       → put v w (here c u ts place) ≡ here c (with_store u (with_leaf_at u.store (of_call c.call v) 0 w)) ts place
   put_is made u ts place v ty w ready e =
       ap
@@ -90,6 +90,7 @@ module _ (c : Context) (set : IsSetting c) where
               typed = typed;
               inside = inside_changed (λ o. with_leaves o (slice_set o.leaves 0 w)) c.call u.store (of_call c.call v) x.ready.inside;
               declares = x.ready.declares;
+              globals = x.ready.globals;
               temporaries = x.ready.temporaries;
             };
         value = x.value;

@@ -1,7 +1,7 @@
 -- What it means that code follows an evaluation, and how the code of parts follows one after another.
 use Rattle.std.proofs.Common.{◌≡◌, ◌<◌, ◌≤◌, ℕ, ◌+◌, List, [], ◌++◌, length, ◌∙◌, arith, length-append, max, Option, Some, None}
 use Rattle.std.specs.Prelude.{⊤, slice_index_or}
-use Rattle.porch_objects.specs.Store.{Value, Object}
+use Rattle.porch_objects.specs.Store.{Value, indeterminate, Object, seen}
 use Rattle.porch_objects.specs.Meaning.{Environment, Mark, Progress}
 use Rattle.porch_flat.specs.declared.whole.Command.{Command}
 use Rattle.porch_flat.specs.declared.whole.Flat.{Flat}
@@ -25,7 +25,8 @@ pub at_most_right : (a b c : ℕ) → max a b ≤ c → b ≤ c
 at_most_right a b c h = omega (arith, h)
 
 -- A call of a function, in an environment and for n turns: its number, where its value goes, its callers and their
--- temporaries; the types of its declared variables; where the pools of temporaries begin, and how many each has.
+-- temporaries; the types of the globals and of its declared variables; where the pools of temporaries begin, and how many
+-- each has.
 pub record Context : Type 0 where
   pub flat : Flat
   pub under : Environment
@@ -35,9 +36,14 @@ pub record Context : Type 0 where
   pub callers : List Frame
   pub more : List (List Object)
   pub call : ℕ
+  pub globals : List ℕ
   pub variables : List ℕ
   pub start : ℕ → ℕ
   pub pools : ℕ → ℕ
+
+-- a value that is there now, and used as it is
+abbrev pub IsPresent : Value → Progress → Type 0
+IsPresent v s = (seen s.store v ≡ v) × (v ≡ indeterminate → ⊥)
 
 module _ (c : Context) where
   -- the number of the first temporary
@@ -86,6 +92,7 @@ module _ (c : Context) where
     pub typed : IsTypedStore c.flat.types c.under.widths made s.store
     pub inside : IsInside c.call s.store
     pub declares : slice_index_or made.calls c.call [] ≡ c.variables
+    pub globals : made.globals ≡ c.globals
     pub temporaries : (ty index i : ℕ) → index < c.pools ty → first + i ≡ c.start ty + index → IsTemporary ts i
 
   pub grounded : (made : StoreTyping) (s : Progress) (ts : List Object) → IsReady made s ts → IsGroundedStore (counts made) s.store
@@ -130,6 +137,26 @@ module _ (c : Context) where
       → Stands commands place (coder (Some d) used label).commands
       → Follow (value s) (here s ts place) s.marks
       (Arrives ty made (Some d) used ts (here s ts place) s.marks (place + length (coder (Some d) used label).commands))
+
+  -- variable d is a temporary in use
+  pub record IsTaken (used : InUse) (d : ℕ) : Type 0 where
+    pub index : ℕ
+    pub number : d ≡ first + index
+    pub is_used : IsUsed used index
+
+  -- a value may go to a temporary in use alone
+  abbrev pub Taken : InUse → Option ℕ → Type 0
+  Taken used None = ⊥
+  Taken used (Some d) = IsTaken used d
+
+  -- The code follows the evaluation where the value may go as `Fit` says, and `Is` holds of the value when it is there.
+  abbrev pub Evaluates : (Fit : InUse → Option ℕ → Type 0) → (Is : Value → Progress → Type 0) → (ty : ℕ) → (value : Progress → Outcome) → Coder → Type 0
+  Evaluates Fit Is ty value coder =
+      (to : Option ℕ) (used : InUse) (label place : ℕ) (made : StoreTyping) (s : Progress) (ts : List Object) → IsReady made s ts → Fit used to → MayGo ty to
+      → ((t : ℕ) → (coder to used label).most t ≤ c.pools t)
+      → Stands commands place (coder to used label).commands
+      → Follow (value s) (here s ts place) s.marks
+      (λ v u. Arrives ty made to used ts (here s ts place) s.marks (place + length (coder to used label).commands) v u × Is v u)
 
   pub keeps_both : (to : Option ℕ) (used : InUse) (a b d : List Object) → Keeps None used a b → Keeps to used b d → Keeps to used a d
   keeps_both to used a b d x y i u ne = y i u ne ∙ x i u (λ e. cc)

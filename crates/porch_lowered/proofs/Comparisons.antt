@@ -82,7 +82,7 @@ turned_round (pointer home leaf) indeterminate test go = refl
 turned_round (past home leaf until) indeterminate test go = refl
 turned_round indeterminate indeterminate test go = refl
 
-not_less : (x y : ℤ) → not (int_lt y x) ≡ int_le x y
+pub not_less : (x y : ℤ) → not (int_lt y x) ≡ int_le x y
 not_less x y = grind (arith, ints)
 
 -- an operand that is a variable
@@ -149,7 +149,7 @@ module _ (c : Context) (set : IsSetting c) (kind : Kind) (place d : ℕ) (made :
 
 module _ (c : Context) (set : IsSetting c) where
   -- 1 and 0 are ints
-  truth_is_int : (made : StoreTyping) (b : Bool) → IsOf c made INT (truth_value b)
+  pub truth_is_int : (made : StoreTyping) (b : Bool) → IsOf c made INT (truth_value b)
   truth_is_int made true = (Int, set.kinds Int, narrow_fits Int c.under.widths (pos 1) refl)
   truth_is_int made false = (Int, set.kinds Int, narrow_fits Int c.under.widths (pos 0) refl)
 
@@ -164,7 +164,7 @@ module _ (c : Context) (set : IsSetting c) where
   truth_given made test (past home leaf until) y = tt
   truth_given made test indeterminate y = tt
 
-  quiet_comparison : (how : Comparison) (d : ℕ) (a b : Operand) → IsQuiet c.flat (form_of (comparison how d a b))
+  pub quiet_comparison : (how : Comparison) (d : ℕ) (a b : Operand) → IsQuiet c.flat (form_of (comparison how d a b))
   quiet_comparison Less d a b = record { calm = refl; silent = λ s frame. refl }
   quiet_comparison Greater d a b = record { calm = refl; silent = λ s frame. refl }
   quiet_comparison LessEqual d a b = record { calm = refl; silent = λ s frame. refl }

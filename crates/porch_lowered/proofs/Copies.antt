@@ -98,6 +98,7 @@ module _ (c : Context) (set : IsSetting c) where
               typed = subst (λ r. Gives (IsTypedStore c.flat.types c.under.widths made) r) e typed;
               inside = subst (λ r. Gives (IsInside c.call) r) e inside;
               declares = ready.declares;
+              globals = ready.globals;
               temporaries = ready.temporaries;
             };
         value = of;

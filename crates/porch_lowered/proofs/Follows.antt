@@ -57,6 +57,22 @@ module _ (flat : Flat) (under : Environment) (n : ℕ) where
   follows_then_is (Undefined a s) go here before first second x k = x
   follows_then_is (Stopped s) go here before first second x k = x
 
+  -- what is known where it goes on, with what it came to
+  pub follows_is : (o : Outcome) (here : State) (before : List Mark) (first second : Value → Progress → Type 0)
+      → Follows o here before first → ((v : Value) (s : Progress) → o ≡ Went v s → first v s → second v s)
+      → Follows o here before second
+  follows_is (Went v s) here before first second x k = k v s refl x
+  follows_is (Left how s) here before first second x k = x
+  follows_is (Undefined a s) here before first second x k = x
+  follows_is (Stopped s) here before first second x k = x
+
+  -- what a result leads to
+  pub follows_with : (r : Result Value Act) (s : Progress) (go : Value → Progress → Outcome) (here : State) (before : List Mark) (first second : Value → Progress → Type 0)
+      → Follows (with_result r s (λ v s. Went v s)) here before first → ((v : Value) → first v s → Follows (go v s) here before second)
+      → Follows (with_result r s go) here before second
+  follows_with (Ok v) s go here before first second x k = k v x
+  follows_with (Err a) s go here before first second x k = x
+
   -- one of two ways
   pub follows_either : (b : Bool) (go went : Progress → Outcome) (s : Progress) (here : State) (before : List Mark) (arrives : Value → Progress → Type 0)
       → (b ≡ true → Follows (go s) here before arrives) → (b ≡ false → Follows (went s) here before arrives)

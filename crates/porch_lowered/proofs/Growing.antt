@@ -12,10 +12,10 @@ use Rattle.porch_mean.specs.Operators.{increment_of}
 use Rattle.porch_typed.specs.declared.typed.Operator.{Operator}
 use Rattle.porch_typed.specs.Mirror.{Expression, Expressions, Steps, Place, Print, Prints, Program}
 use Rattle.porch_typed.specs.Mirror as tree
-use Rattle.porch_lowering.specs.Code.{InUse, and_one, at_most, Code, plain, then_code, then_commands, commands_then, no_code, Coder, hold}
+use Rattle.porch_lowering.specs.Code.{InUse, and_one, Code, plain, no_code, Coder, hold}
 use Rattle.porch_lowering.specs.Values.{INT, type_held, pointer_to, may_lack, constant_of, variable_of, no_constant, atom_of, pointer_in}
 use Rattle.porch_lowering.specs.Operators.{right_accepts}
-use Rattle.porch_lowering.specs.Expression.{writes_last, place_type, next, with_target, hold_value, change_variable, change_place, assign_variable, assign_place, copy_struct, assign_by_shape, by_variable, converted_already, convert_to, member_code, read_code, test, goes_on_where_it_holds, put_code, code, place_code, arguments_code, print_arguments_code, print_argument_code, kept_code}
+use Rattle.porch_lowering.specs.Expression.{writes_last, place_type, next, with_target, change_variable, change_place, assign_variable, assign_place, copy_struct, assign_by_shape, by_variable, converted_already, convert_to, member_code, read_code, test, put_code, code, place_code, steps_code, arguments_code, print_arguments_code, print_argument_code, kept_code}
 
 -- where the code of a value takes as many temporaries as were in use
 abbrev pub Grows : Coder → Type 0
@@ -39,7 +39,7 @@ one_grows ty used t =
     ]
 
 -- a value is held
-hold_grows : (o : Option Operand) (x ty : ℕ) (value : Coder) → Grows value → (used : InUse) (label t : ℕ)
+pub hold_grows : (o : Option Operand) (x ty : ℕ) (value : Coder) → Grows value → (used : InUse) (label t : ℕ)
     → used t ≤ (hold o x ty value used label).code.most t
 hold_grows (Some o) x ty value g used label t = same (used t)
 hold_grows None x ty value g used label t = through (used t) (and_one ty used t) _ (one_grows ty used t) (g (Some x) (and_one ty used) label t)
@@ -72,11 +72,11 @@ module _ (p : Program) (start : ℕ → ℕ) where
   shape_grows (Some (Struct members)) None struct direct indirect f g h = f
   shape_grows (Some (Struct members)) (Some v) struct direct indirect f g h = f
 
-  read_grows : (ty : ℕ) (pointer : Option Operand) (pointer_ty : ℕ) (place : Coder) → Grows place → Grows (read_code p start ty pointer pointer_ty place)
+  pub read_grows : (ty : ℕ) (pointer : Option Operand) (pointer_ty : ℕ) (place : Coder) → Grows place → Grows (read_code p start ty pointer pointer_ty place)
   read_grows ty pointer pointer_ty place g to used label t =
       hold_behind to ty pointer (next p start pointer_ty (with_target p start to ty used)) pointer_ty place g used label t
 
-  already_grows : (lacks : Bool) (kind : ℕ) (value : Coder) → Grows value → Grows (converted_already p start lacks kind value)
+  pub already_grows : (lacks : Bool) (kind : ℕ) (value : Coder) → Grows value → Grows (converted_already p start lacks kind value)
   already_grows true kind value g to used label t =
       through (used t) (with_target p start to kind used t) _ (target_grows to kind used t) (g _ (with_target p start to kind used) label t)
   already_grows false kind value g to used label t = g to used label t
@@ -85,7 +85,7 @@ module _ (p : Program) (start : ℕ → ℕ) where
   converts_grow true a b x t g h = g
   converts_grow false a b x t g h = h
 
-  convert_grows : (kind : ℕ) (z : Option ℤ) (ty : ℕ) (lacks : Bool) (in_place : Option Operand) (value : Coder) → Grows value
+  pub convert_grows : (kind : ℕ) (z : Option ℤ) (ty : ℕ) (lacks : Bool) (in_place : Option Operand) (value : Coder) → Grows value
       → Grows (convert_to p start kind z ty lacks in_place value)
   convert_grows kind (Some z) ty lacks in_place value g to used label t = same (used t)
   convert_grows kind None ty lacks in_place value g to used label t =
@@ -118,7 +118,7 @@ module _ (p : Program) (start : ℕ → ℕ) where
   change_place_grows ty op pointer pointer_ty place in_place right_ty right is_new g to used label t =
       first (used t) _ _ (hold_grows _ (next p start pointer_ty used) pointer_ty place g used label t)
 
-  member_grows : (shape : Option Ty) (ty leaf struct_ty : ℕ) (value : Coder) → Grows value → Grows (member_code p start shape ty leaf struct_ty value)
+  pub member_grows : (shape : Option Ty) (ty leaf struct_ty : ℕ) (value : Coder) → Grows value → Grows (member_code p start shape ty leaf struct_ty value)
   member_grows (Some (Struct members)) ty leaf struct_ty value g to used label t =
       hold_behind to _ None _ struct_ty value g used label t
   member_grows None ty leaf struct_ty value g to used label t = first (used t) _ _ (hold_behind to ty None _ struct_ty value g used label t)
@@ -211,12 +211,18 @@ module _ (p : Program) (start : ℕ → ℕ) where
     code_grows (tree.release e) to used label t = hold_grows _ _ _ (code p start e) (code_grows e) used label t
     code_grows tree.checkpoint to used label t = same (used t)
 
-    place_code_grows : (place : Place) (behind : Option ℕ) → Grows (place_code p start place behind)
+    pub place_code_grows : (place : Place) (behind : Option ℕ) → Grows (place_code p start place behind)
     place_code_grows (tree.variable v) behind to used label t = same (used t)
     place_code_grows (tree.global g) behind to used label t = same (used t)
     place_code_grows (tree.pointee e) None to used label t = code_grows e to used label t
     place_code_grows (tree.pointee e) (Some leaf) to used label t = hold_grows _ _ _ (code p start e) (code_grows e) used label t
     place_code_grows (tree.member leaf place) behind to used label t = place_code_grows place _ to used label t
+
+    pub steps_grow : (steps : Steps) (left : Operand) (ty : ℕ) (free : InUse) (to : Option ℕ) (used : InUse) (label t : ℕ)
+        → used t ≤ (steps_code p start steps left ty free to used label).most t
+    steps_grow tree.no_steps left ty free to used label t = same (used t)
+    steps_grow (tree.with_step op e steps) left ty free to used label t =
+        first (used t) _ _ (hold_grows _ _ (type_held p e) (code p start e) (code_grows e) used label t)
 
     arguments_grow : (es : Expressions) (used : InUse) (label t : ℕ) → used t ≤ (arguments_code p start es used label).most t
     arguments_grow tree.no_expressions used label t = same (used t)

@@ -15,9 +15,9 @@ use Rattle.porch_lowered.proofs.Runs.{stays}
 use Rattle.porch_lowered.proofs.Follows.{follows_from, follows_then}
 use Rattle.porch_lowered.proofs.States.{Stands}
 use Rattle.porch_lowered.proofs.Growing.{Grows}
-use Rattle.porch_lowered.proofs.Codes.{Context, commands, here, IsOf, On, Follow, IsUsed, Keeps, IsReady, Arrives, arrives_from, Writes}
-use Rattle.porch_lowered.proofs.Holding.{IsSetting, codes_hold, room_grown, room_next, used_before, one_is_used, temporary_type}
-use Rattle.porch_lowered.proofs.Operands.{IsOperand}
+use Rattle.porch_lowered.proofs.Codes.{Context, commands, here, IsOf, On, Follow, IsUsed, Keeps, IsReady, Arrives, arrives_from, Taken, Evaluates}
+use Rattle.porch_lowered.proofs.Holding.{IsSetting, evaluates_hold, room_grown, room_next, used_before, one_is_used, temporary_type}
+use Rattle.porch_lowered.proofs.Operands.{InTemporary, IsOperand, IsSteady}
 
 -- a value that is used at once
 abbrev pub use_now : Value → Progress → Outcome
@@ -67,22 +67,79 @@ module _ (c : Context) where
       }))
       follows
 
-  pub hold_then : (set : IsSetting c) (ty : ℕ) (o : Option Operand) (value : Progress → Outcome) (coder : Coder) (go : Value → Progress → Outcome)
-      → Writes c ty value coder → Grows coder → InPlace ty o value → IsStrict go
+  -- the same, with what else is known of the value
+  pub from_held_is : (Is : Value → Progress → Type 0) (ty ty' : ℕ) (made : StoreTyping) (used used' : InUse) (from : List Object) (near : State) (before : List Mark) (place end : ℕ) (o : Operand)
+      (v : Value) (s : Progress) (to : Option ℕ) (out : Outcome) (h : IsHeld ty made used used' from near before place o v s)
+      → Follow c out (here c s h.temporaries place) s.marks (λ w u. Arrives c ty' h.later to used' h.temporaries (here c s h.temporaries place) s.marks end w u × Is w u)
+      → Follow c out near before (λ w u. Arrives c ty' made to used from near before end w u × Is w u)
+  from_held_is Is ty ty' made used used' from near before place end o v s to out h follows =
+      follows_from c.flat c.under c.n out near (here c s h.temporaries place) before s.marks _ _ h.onward
+      (λ w u x.
+      (let far = x.0 in (
+        arrives_from c ty' made h.later to used from h.temporaries near (here c s h.temporaries place) before s.marks end w u h.adds h.onward h.kept
+            (record {
+              later = far.later;
+              adds = far.adds;
+              temporaries = far.temporaries;
+              onward = far.onward;
+              ready = far.ready;
+              value = far.value;
+              kept = λ i x ne. far.kept i (h.more i x) ne;
+            }),
+        x.1,
+      )))
+      follows
+
+  -- What comes behind uses the value in this state, where that stands in place.
+  abbrev pub IsStrictAt : Option Operand → (Value → Progress → Outcome) → Progress → Type 0
+  IsStrictAt None go s = ⊤
+  IsStrictAt (Some o) go s = (v : Value) → and_then (use_now v s) go ≡ go v s
+
+  pub strict_at : (o : Option Operand) (go : Value → Progress → Outcome) (s : Progress) → IsStrict go → IsStrictAt o go s
+  strict_at None go s strict = tt
+  strict_at (Some o) go s strict = λ v. strict v s
+
+  -- of a value that doesn't stand in place
+  abbrev pub IfHeld : Option Operand → Type 0 → Type 0
+  IfHeld None P = P
+  IfHeld (Some o) P = ⊤
+
+  -- What else holds, and still does when the value is held: one that stands in place changes nothing.
+  abbrev pub Carries : Option Operand → (ty : ℕ) → (Other : StoreTyping → InUse → Progress → List Object → Type 0) → StoreTyping → InUse → Progress → List Object → Type 0
+  Carries None ty Other made used s ts =
+      (later : StoreTyping) (u : Progress) (ts' : List Object) → Adds made later → Keeps c None used ts ts' → Other later (and_one ty used) u ts'
+  Carries (Some o) ty Other made used s ts = Other made used s ts
+
+  abbrev pub Nothing : StoreTyping → InUse → Progress → List Object → Type 0
+  Nothing made used s ts = ⊤
+
+  pub carries_nothing : (o : Option Operand) (ty : ℕ) (made : StoreTyping) (used : InUse) (s : Progress) (ts : List Object) → Carries o ty Nothing made used s ts
+  carries_nothing None ty made used s ts = λ later u ts' adds keeps. tt
+  carries_nothing (Some o) ty made used s ts = tt
+
+  pub hold_then : (set : IsSetting c) (ty : ℕ) (o : Option Operand) (Is : Value → Progress → Type 0) (Other : StoreTyping → InUse → Progress → List Object → Type 0)
+      (value : Progress → Outcome) (coder : Coder) (go : Value → Progress → Outcome)
+      → Evaluates c (Taken c) Is ty value coder → Grows coder → InPlace ty o value
       → (used : InUse) (label place : ℕ) (made : StoreTyping) (s : Progress) (ts : List Object) (near : Value → Progress → Type 0) → IsReady c made s ts
+      → IsStrictAt o go s → Carries o ty Other made used s ts
       → ((t : ℕ) → (hold o (next_of c.start ty used) ty coder used label).code.most t ≤ c.pools t)
       → Stands (commands c) place (hold o (next_of c.start ty used) ty coder used label).code.commands
       → ((v : Value) (u : Progress)
-      → IsHeld ty made used (hold o (next_of c.start ty used) ty coder used label).used ts (here c s ts place) s.marks
-      (place + length (hold o (next_of c.start ty used) ty coder used label).code.commands) (hold o (next_of c.start ty used) ty coder used label).operand v u
+      → (h : IsHeld ty made used (hold o (next_of c.start ty used) ty coder used label).used ts (here c s ts place) s.marks
+      (place + length (hold o (next_of c.start ty used) ty coder used label).code.commands) (hold o (next_of c.start ty used) ty coder used label).operand v u)
+      → Other h.later (hold o (next_of c.start ty used) ty coder used label).used u h.temporaries
+      → IfHeld o
+      (Is v u
+      × IsSteady c ty (hold o (next_of c.start ty used) ty coder used label).used h.temporaries (hold o (next_of c.start ty used) ty coder used label).operand v)
       → Follow c (go v u) (here c s ts place) s.marks near)
       → Follow c (and_then (value s) go) (here c s ts place) s.marks near
-  hold_then set ty (Some o) value coder go writes grows stands_there strict used label place made s ts near ready room stands k =
+  hold_then set ty (Some o) Is Other value coder go evaluates grows stands_there used label place made s ts near ready strict carries room stands k =
       let x = stands_there made s ts used ready in
       let v = x.0 in
       let e : place + 0 ≡ place = omega arith in
-      subst (λ out. Follow c out (here c s ts place) s.marks near) (sym (ap (λ out. and_then out go) x.3 ∙ strict v s))
-      (k v s (record {
+      subst (λ out. Follow c out (here c s ts place) s.marks near) (sym (ap (λ out. and_then out go) x.3 ∙ strict v))
+      (k v s
+      (record {
         later = made;
         adds = adds_nothing made;
         temporaries = ts;
@@ -92,15 +149,25 @@ module _ (c : Context) where
         kept = λ i u ne. refl;
         operand = x.1;
         more = λ i u. u;
-      }))
-  hold_then set ty None value coder go writes grows stands_there strict used label place made s ts near ready room stands k =
+      })
+      carries tt)
+  hold_then set ty None Is Other value coder go evaluates grows stands_there used label place made s ts near ready strict carries room stands k =
       let t = next_of c.start ty used in
       let room' = room_grown c set coder grows (Some t) (and_one ty used) label room in
       let inside = room_next c set ty used room' in
       follows_then c.flat c.under c.n (value s) go (here c s ts place) s.marks _ near
-      (codes_hold c set ty value coder writes grows used label place made s ts ready room stands)
-      (λ v u h.
-      k v u (record {
+      (evaluates_hold c set Is ty value coder evaluates grows used label place made s ts ready room stands)
+      (λ v u both.
+      (let h = both.0 in
+      let held : InTemporary c ty (and_one ty used) h.temporaries t v = record {
+        of_type = temporary_type c set ty used inside;
+        index = h.index;
+        number = h.number;
+        is_used = record { ty = ty; index = used ty; less = one_is_used c set ty used; number = sym h.number };
+        holds = h.holds;
+      } in
+      k v u
+      (record {
         later = h.later;
         adds = h.adds;
         temporaries = h.temporaries;
@@ -108,13 +175,7 @@ module _ (c : Context) where
         ready = h.ready;
         value = h.value;
         kept = h.kept;
-        operand =
-            inl (record {
-              of_type = temporary_type c set ty used inside;
-              index = h.index;
-              number = h.number;
-              is_used = record { ty = ty; index = used ty; less = one_is_used c set ty used; number = sym h.number };
-              holds = h.holds;
-            });
+        operand = inl held;
         more = λ i u. used_before c set ty used i u;
-      }))
+      })
+      (carries h.later u h.temporaries h.adds h.kept) (both.1, held)))

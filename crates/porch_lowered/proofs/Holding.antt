@@ -1,12 +1,13 @@
 -- A value that goes to a temporary is held there.
 use Rattle.std.proofs.Common.{◌≡◌, ◌<◌, ◌≤◌, ◌≢◌, ℕ, ◌+◌, ◌-◌, ℤ, List, ◌∷◌, length, refl, sym, ap, ◌∙◌, arith, inl, inr, Option, Some, None}
 use Rattle.std.proofs.lemmas.Bool.Decides.{eqb_tells}
-use Rattle.std.specs.Prelude.{slice_get, IsTrue, ◌||◌, Ok}
+use Rattle.std.specs.Prelude.{⊤, slice_get, IsTrue, ◌||◌, Ok}
 use Rattle.porch_types.specs.declared.shapes.Kind.{Kind}
 use Rattle.porch_types.specs.declared.shapes.Ty.TheVariants.{Whole}
 use Rattle.porch_types.specs.Kinds.{kind_number}
-use Rattle.porch_types.specs.Leaves.{IsTypes}
+use Rattle.porch_types.specs.Leaves.{IsTypes, leaves_of}
 use Rattle.porch_types.specs.LeafTypes.{IsScalar, leaf_type}
+use Rattle.porch_types.specs.Rows.{IsSubobject}
 use Rattle.porch_values.specs.declared.acts.Op.{Op}
 use Rattle.porch_values.specs.Integers.{applied, complemented, converted, is_value_of}
 use Rattle.porch_objects.specs.Store.{of_call, Value, Object, seen, leaf_at, with_leaf_at}
@@ -22,11 +23,11 @@ use Rattle.porch_lowered.specs.Beside.{beside}
 use Rattle.porch_lowered.proofs.ReadAlike.{seen_alike}
 use Rattle.porch_lowered.proofs.Typed.{counts, count_of}
 use Rattle.porch_lowered.proofs.Runs.{stays}
-use Rattle.porch_lowered.proofs.Follows.{follows_from}
+use Rattle.porch_lowered.proofs.Follows.{follows_from, follows_is}
 use Rattle.porch_lowered.proofs.Temporaries.{innermost_is, with_temporary, temporary, temporary_read, temporary_written, other_temporary, same_temporary, still_temporary}
 use Rattle.porch_lowered.proofs.States.{Stands}
 use Rattle.porch_lowered.proofs.Growing.{Grows}
-use Rattle.porch_lowered.proofs.Codes.{Context, first, commands, frame, here, IsOf, On, Follow, IsUsed, Keeps, IsReady, grounded, value_is_grounded, MayGo, Codes, Writes}
+use Rattle.porch_lowered.proofs.Codes.{Context, first, commands, frame, here, IsOf, On, Follow, IsUsed, Keeps, IsReady, grounded, value_is_grounded, MayGo, Arrives, Codes, Writes, IsTaken, Taken, Evaluates}
 
 -- The pools lie behind the declared variables and apart, and their temporaries have their types. The other fields are laws
 -- of the crates below, at the program's types and the environment's widths.
@@ -38,7 +39,10 @@ pub record IsSetting (c : Context) : Type 0 where
   pub are : IsTypes c.flat.types
   pub kinds : (kind : Kind) → slice_get c.flat.types (kind_number kind) ≡ Some (Whole kind)
   pub whole : (ty : ℕ) (kind : Kind) → slice_get c.flat.types ty ≡ Some (Whole kind) → ty ≡ kind_number kind
+  pub nest : (root count place ty inner pointee : ℕ) → IsSubobject c.flat.types root count place ty → IsSubobject c.flat.types ty 1 inner pointee
+      → IsSubobject c.flat.types root count (place + inner) pointee
   pub scalar_leaf : (ty leaf : ℕ) → IsScalar (slice_get c.flat.types ty) → leaf_type c.flat.types ty leaf ≡ ty
+  pub scalar_size : (ty : ℕ) → IsScalar (slice_get c.flat.types ty) → leaves_of c.flat.types ty ≡ 1
   pub keeps : KeepTypes
   pub some_width : IsTrue (c.under.widths.narrow || c.under.widths.wide)
   pub converts : (kind : Kind) (z w : ℤ) → converted kind c.under.widths z ≡ Ok w → IsTrue (is_value_of kind c.under.widths w)
@@ -89,6 +93,7 @@ module _ (c : Context) (set : IsSetting c) where
         typed = ready.typed;
         inside = ready.inside;
         declares = ready.declares;
+        globals = ready.globals;
         temporaries = λ ty index j less e. still_temporary ts i j v (ready.temporaries ty index j less e);
       }
 
@@ -180,6 +185,72 @@ module _ (c : Context) (set : IsSetting c) where
       → (t : ℕ) → used t ≤ c.pools t
   room_grown coder grows to used label room t = (let a = grows to used label t in let b = room t in omega (arith, a, b))
 
+  -- the next temporary is one of those in use with it
+  pub next_is_taken : (ty : ℕ) (used : InUse) → used ty < c.pools ty → IsTaken c (and_one ty used) (next_of c.start ty used)
+  next_is_taken ty used inside =
+      let x = next_is ty used inside in
+      record {
+        index = x.index;
+        number = x.number;
+        is_used = record { ty = ty; index = used ty; less = one_is_used ty used; number = sym x.number };
+      }
+
+  -- a value that arrives in the next temporary is held there
+  pub arrives_held : (ty : ℕ) (used in_use : InUse) (made : StoreTyping) (from : List Object) (near : State) (before : List Mark) (place : ℕ) (v : Value) (s : Progress)
+      → used ty < c.pools ty → ((t : ℕ) → used t ≤ c.pools t) → ((i : ℕ) → IsUsed c used i → IsUsed c in_use i)
+      → Arrives c ty made (Some (next_of c.start ty used)) in_use from near before place v s
+      → Holds ty made used from near before place (next_of c.start ty used) v s
+  arrives_held ty used in_use made from near before place v s inside room more y =
+      let t = next_of c.start ty used in
+      let x = next_is ty used inside in
+      record {
+        later = y.later;
+        adds = y.adds;
+        temporaries = with_temporary y.temporaries x.index v;
+        onward = rw (put_temporary y.later s y.temporaries place x.index t v y.ready x.number) at y.onward;
+        ready = ready_with y.later s y.temporaries x.index v y.ready;
+        value = y.value;
+        kept = λ j u ne.
+            (let far = next_is_free ty used x j u room in
+            other_temporary y.temporaries x.index j v far
+            ∙ y.kept j (more j u)
+            (λ e. (let k = some_same t (first c + j) e in let number = x.number in far (omega (arith, k, number)))));
+        index = x.index;
+        number = x.number;
+        holds = next_holds ty used x y.later s y.temporaries v y.ready;
+      }
+    where
+      some_same : (a b : ℕ) → Some a ≡ Some b → a ≡ b
+      some_same a b e = cc
+
+  -- Its code goes to the next temporary.
+  pub evaluates_hold : (Is : Value → Progress → Type 0) (ty : ℕ) (value : Progress → Outcome) (coder : Coder) → Evaluates c (Taken c) Is ty value coder → Grows coder
+      → (used : InUse) (label place : ℕ) (made : StoreTyping) (s : Progress) (ts : List Object) → IsReady c made s ts
+      → ((t : ℕ) → (coder (Some (next_of c.start ty used)) (and_one ty used) label).most t ≤ c.pools t)
+      → Stands (commands c) place (coder (Some (next_of c.start ty used)) (and_one ty used) label).commands
+      → Follow c (value s) (here c s ts place) s.marks
+      (λ v u.
+      Holds ty made used ts (here c s ts place) s.marks (place + length (coder (Some (next_of c.start ty used)) (and_one ty used) label).commands) (next_of c.start ty used) v u
+      × Is v u)
+  evaluates_hold Is ty value coder evaluates grows used label place made s ts ready room stands =
+      let t = next_of c.start ty used in
+      let a = coder (Some t) (and_one ty used) label in
+      let room' = room_grown coder grows (Some t) (and_one ty used) label room in
+      let inside = room_next ty used room' in
+      follows_is c.flat c.under c.n (value s) (here c s ts place) s.marks _ _
+      (evaluates (Some t) (and_one ty used) label place made s ts ready (next_is_taken ty used inside) (temporary_type ty used inside) room stands)
+      (λ v u e x. (
+        arrives_held ty used (and_one ty used) made ts (here c s ts place) s.marks (place + length a.commands) v u inside (room_before ty used room')
+            (λ i u. used_before ty used i u) x.0,
+        x.1,
+      ))
+
+  -- what may go anywhere may go to a temporary in use
+  pub writes_taken : (ty : ℕ) (value : Progress → Outcome) (coder : Coder) → Writes c ty value coder → Evaluates c (Taken c) (λ v s. ⊤) ty value coder
+  writes_taken ty value coder writes None used label place made s ts ready taken may room stands = absurd taken
+  writes_taken ty value coder writes (Some d) used label place made s ts ready taken may room stands =
+      follows_is c.flat c.under c.n (value s) (here c s ts place) s.marks _ _ (writes d used label place made s ts ready may room stands) (λ v u e x. (x, tt))
+
   pub codes_hold : (ty : ℕ) (value : Progress → Outcome) (coder : Coder) → Writes c ty value coder → Grows coder
       → (used : InUse) (label place : ℕ) (made : StoreTyping) (s : Progress) (ts : List Object) → IsReady c made s ts
       → ((t : ℕ) → (coder (Some (next_of c.start ty used)) (and_one ty used) label).most t ≤ c.pools t)
@@ -187,34 +258,8 @@ module _ (c : Context) (set : IsSetting c) where
       → Follow c (value s) (here c s ts place) s.marks
       (Holds ty made used ts (here c s ts place) s.marks (place + length (coder (Some (next_of c.start ty used)) (and_one ty used) label).commands) (next_of c.start ty used))
   codes_hold ty value coder writes grows used label place made s ts ready room stands =
-      let t = next_of c.start ty used in
-      let a = coder (Some t) (and_one ty used) label in
-      let end = place + length a.commands in
-      let room' = room_grown coder grows (Some t) (and_one ty used) label room in
-      let inside = room_next ty used room' in
-      let x = next_is ty used inside in
-      follows_from c.flat c.under c.n (value s) (here c s ts place) (here c s ts place) s.marks s.marks _ _ (stays c.flat c.under c.n (here c s ts place) s.marks)
-      (λ v s' y.
-      record {
-        later = y.later;
-        adds = y.adds;
-        temporaries = with_temporary y.temporaries x.index v;
-        onward = rw (put_temporary y.later s' y.temporaries end x.index t v y.ready x.number) at y.onward;
-        ready = ready_with y.later s' y.temporaries x.index v y.ready;
-        value = y.value;
-        kept = λ j u ne.
-            (let far = next_is_free ty used x j u (room_before ty used room') in
-            other_temporary y.temporaries x.index j v far
-            ∙ y.kept j (used_before ty used j u)
-            (λ e. (let k = some_same t (first c + j) e in let number = x.number in far (omega (arith, k, number)))));
-        index = x.index;
-        number = x.number;
-        holds = next_holds ty used x y.later s' y.temporaries v y.ready;
-      })
-      (writes t (and_one ty used) label place made s ts ready (temporary_type ty used inside) room stands)
-    where
-      some_same : (a b : ℕ) → Some a ≡ Some b → a ≡ b
-      some_same a b e = cc
+      follows_is c.flat c.under c.n (value s) (here c s ts place) s.marks _ _
+      (evaluates_hold (λ v s. ⊤) ty value coder (writes_taken ty value coder writes) grows used label place made s ts ready room stands) (λ v u e x. x.0)
 
   -- Code that takes a temporary of its own for a value that is dropped, and writes to it.
   pub codes_both : (ty : ℕ) (value : Progress → Outcome) (coder : Coder) → Writes c ty value coder → Grows coder
@@ -229,3 +274,30 @@ module _ (c : Context) (set : IsSetting c) where
       (λ v s' x.
       record { later = x.later; adds = x.adds; temporaries = x.temporaries; onward = x.onward; ready = x.ready; value = x.value; kept = x.kept })
       (codes_hold ty value coder writes grows used label place made s ts ready (rw is at room) (rw is at stands)))
+
+  -- The same where the value may go as `Fit` says, also to that temporary.
+  pub evaluates_both : (Fit : InUse → Option ℕ → Type 0) (Is : Value → Progress → Type 0) (ty : ℕ) (value : Progress → Outcome) (coder : Coder)
+      → ((used : InUse) (d : ℕ) → IsTaken c used d → Fit used (Some d))
+      → ((d : ℕ) (used : InUse) (label place : ℕ) (made : StoreTyping) (s : Progress) (ts : List Object) → IsReady c made s ts → Fit used (Some d) → MayGo c ty (Some d)
+      → ((t : ℕ) → (coder (Some d) used label).most t ≤ c.pools t)
+      → Stands (commands c) place (coder (Some d) used label).commands
+      → Follow c (value s) (here c s ts place) s.marks
+      (λ v u. Arrives c ty made (Some d) used ts (here c s ts place) s.marks (place + length (coder (Some d) used label).commands) v u × Is v u))
+      → Grows coder
+      → ((used : InUse) (label : ℕ) → coder None used label ≡ coder (Some (next_of c.start ty used)) (and_one ty used) label)
+      → Evaluates c Fit Is ty value coder
+  evaluates_both Fit Is ty value coder fit writes grows same (Some d) used label place made s ts ready fits may room stands =
+      writes d used label place made s ts ready fits may room stands
+  evaluates_both Fit Is ty value coder fit writes grows same None used label place made s ts ready fits may room stands =
+      let is = same used label in
+      rw is
+      (follows_is c.flat c.under c.n (value s) (here c s ts place) s.marks _ _
+      (evaluates_hold Is ty value coder to_taken grows used label place made s ts ready (rw is at room) (rw is at stands))
+      (λ v s' e both.
+      (let x = both.0 in
+      (record { later = x.later; adds = x.adds; temporaries = x.temporaries; onward = x.onward; ready = x.ready; value = x.value; kept = x.kept }, both.1))))
+    where
+      to_taken : Evaluates c (Taken c) Is ty value coder
+      to_taken None used label place made s ts ready taken may room stands = absurd taken
+      to_taken (Some d) used label place made s ts ready taken may room stands =
+          writes d used label place made s ts ready (fit used d taken) may room stands

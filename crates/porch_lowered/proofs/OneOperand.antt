@@ -30,10 +30,10 @@ use Rattle.porch_lowered.proofs.Typed.{counts}
 use Rattle.porch_lowered.proofs.SameLeaf.{seen_twice}
 use Rattle.porch_lowered.proofs.States.{Stands, front_stands, back_stands, IsQuiet}
 use Rattle.porch_lowered.proofs.Growing.{Grows}
-use Rattle.porch_lowered.proofs.Codes.{Context, commands, frame, here, goes_on, IsOf, Follow, IsReady, grounded, value_is_grounded, MayGo, Arrives, Writes}
+use Rattle.porch_lowered.proofs.Codes.{Context, commands, frame, here, goes_on, IsOf, Follow, IsReady, grounded, value_is_grounded, MayGo, Arrives, Taken, Evaluates}
 use Rattle.porch_lowered.proofs.Holding.{IsSetting, kept_types}
 use Rattle.porch_lowered.proofs.Operands.{variable_is, operand_type}
-use Rattle.porch_lowered.proofs.Held.{IsStrict, InPlace, hold_then, from_held}
+use Rattle.porch_lowered.proofs.Held.{IsStrict, InPlace, strict_at, Nothing, carries_nothing, hold_then, from_held}
 use Rattle.porch_lowered.proofs.Commands.{command_follows, cast_does, cast_gives}
 
 -- an operand that stands in a variable, where there is one
@@ -58,22 +58,22 @@ module _ (c : Context) (set : IsSetting c) where
   one_code ty o coder make d used label =
       let x = hold o (next_of c.start ty used) ty coder used label in then_commands x.code (make d (var_of x.operand) ∷ [])
 
-  variable_held : (o : Option Operand) (t ty : ℕ) (coder : Coder) (used : InUse) (label : ℕ) → IsVariable o
+  pub variable_held : (o : Option Operand) (t ty : ℕ) (coder : Coder) (used : InUse) (label : ℕ) → IsVariable o
       → (x : ℕ) × ((hold o t ty coder used label).operand ≡ Var x)
   variable_held None t ty coder used label h = (t, refl)
   variable_held (Some (Var x)) t ty coder used label h = (x, refl)
   variable_held (Some (Constant z)) t ty coder used label h = absurd h
 
-  pub one_writes : (ty ty' : ℕ) (o : Option Operand) (value : Progress → Outcome) (coder : Coder) (result : Store → Value → Result Value Act)
+  pub one_writes : (ty ty' : ℕ) (o : Option Operand) (Is : Value → Progress → Type 0) (value : Progress → Outcome) (coder : Coder) (result : Store → Value → Result Value Act)
       (make : (target operand : ℕ) → Command) (go : Value → Progress → Outcome)
       → ((v : Value) (s : Progress) → go v s ≡ with_result (result s.store v) s (λ w s. Went w s)) → IsStrict go
-      → Writes c ty value coder → Grows coder → InPlace c ty o value → IsVariable o → Makes ty ty' result make
+      → Evaluates c (Taken c) Is ty value coder → Grows coder → InPlace c ty o value → IsVariable o → Makes ty ty' result make
       → (d : ℕ) (used : InUse) (label place : ℕ) (made : StoreTyping) (s : Progress) (ts : List Object) → IsReady c made s ts → MayGo c ty' (Some d)
       → ((t : ℕ) → (one_code ty o coder make d used label).most t ≤ c.pools t)
       → Stands (commands c) place (one_code ty o coder make d used label).commands
       → Follow c (and_then (value s) go) (here c s ts place) s.marks
       (Arrives c ty' made (Some d) used ts (here c s ts place) s.marks (place + length (one_code ty o coder make d used label).commands))
-  one_writes ty ty' o value coder result make go go_is strict writes grows in_place variable makes d used label place made s ts ready may room stands =
+  one_writes ty ty' o Is value coder result make go go_is strict evaluates grows in_place variable makes d used label place made s ts ready may room stands =
       let x = hold o (next_of c.start ty used) ty coder used label in
       let all = commands c in
       let found = variable_held o (next_of c.start ty used) ty coder used label variable in
@@ -83,9 +83,10 @@ module _ (c : Context) (set : IsSetting c) where
       let last = back_stands all place x.code.commands (make d (var_of x.operand) ∷ []) stands in
       let stands_last : slice_get all middle ≡ Some (make d t) = last.0 ∙ ap (λ t. Some (make d t)) name in
       let end : middle + 1 ≡ place + length (x.code.commands ++ make d (var_of x.operand) ∷ []) = simp length-append (omega arith) in
-      hold_then c set ty o value coder go writes grows in_place strict used label place made s ts _ ready room
+      hold_then c set ty o Is (Nothing c) value coder go evaluates grows in_place used label place made s ts _ ready (strict_at c o go s strict)
+      (carries_nothing c o ty made used s ts) room
       (front_stands all place x.code.commands (make d (var_of x.operand) ∷ []) stands)
-      (λ v u h.
+      (λ v u h other is.
       from_held c ty ty' made used x.used ts (here c s ts place) s.marks middle (place + length (x.code.commands ++ make d (var_of x.operand) ∷ [])) x.operand v u (Some d) (go v u) h
       (let operand = rw found.1 at h.operand in
       let value_is = variable_is c set h.later u h.temporaries middle ty t x.used v h.ready operand h.value in

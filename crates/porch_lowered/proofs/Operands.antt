@@ -67,6 +67,27 @@ module _ (c : Context) where
   operand_stays ty used used' s ts ts' (Var t) v more keeps (inr x) = inr x
   operand_stays ty used used' s ts ts' (Constant z) v more keeps x = x
 
+  -- one that stays where the store changes: it stands in no variable of the source
+  abbrev pub IsSteady : (ty : ℕ) → InUse → List Object → Operand → Value → Type 0
+  IsSteady ty used ts (Var t) v = InTemporary ty used ts t v
+  IsSteady ty used ts (Constant z) v = constant_of (type_at c.flat (Some ty)) z ≡ v
+
+  pub steady_is : (ty : ℕ) (used : InUse) (s : Progress) (ts : List Object) (o : Operand) (v : Value) → IsSteady ty used ts o v → IsOperand ty used s ts o v
+  steady_is ty used s ts (Var t) v x = inl x
+  steady_is ty used s ts (Constant z) v x = x
+
+  pub steady_stays : (ty : ℕ) (used used' : InUse) (ts ts' : List Object) (o : Operand) (v : Value)
+      → ((i : ℕ) → IsUsed c used i → IsUsed c used' i) → Keeps c None used ts ts' → IsSteady ty used ts o v → IsSteady ty used' ts' o v
+  steady_stays ty used used' ts ts' (Var t) v more keeps x =
+      record {
+        of_type = x.of_type;
+        index = x.index;
+        number = x.number;
+        is_used = more x.index x.is_used;
+        holds = keeps x.index x.is_used (λ e. cc) ∙ x.holds;
+      }
+  steady_stays ty used used' ts ts' (Constant z) v more keeps x = x
+
   constant_seen : (s : Store) (shape : Option Ty) (z : ℤ) → seen s (constant_of shape z) ≡ constant_of shape z
   constant_seen s None z = refl
   constant_seen s (Some (Whole kind)) z = refl

@@ -48,12 +48,12 @@ promoted_number UInt = refl
 promoted_number Long = refl
 promoted_number ULong = refl
 
-never_constant : (o : Operand) → IsAccepted (λ z. false) o → IsVar o
+pub never_constant : (o : Operand) → IsAccepted (λ z. false) o → IsVar o
 never_constant (Var x) h = tt
 never_constant (Constant z) h = cc
 
 module _ (c : Context) (set : IsSetting c) where
-  fits : (kind : Kind) (o : Operand) → IsAccepted (constant_in kind) o → Fits c set kind o
+  pub fits : (kind : Kind) (o : Operand) → IsAccepted (constant_in kind) o → Fits c set kind o
   fits kind (Var x) h = tt
   fits kind (Constant z) h = narrow_fits kind c.under.widths z h
 

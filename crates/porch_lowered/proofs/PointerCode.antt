@@ -36,7 +36,7 @@ use Rattle.porch_lowered.proofs.Operate.{InRange, is_number, Fits, same_kind, is
 use Rattle.porch_lowered.proofs.OperatorCode.{promotes}
 use Rattle.porch_lowered.proofs.Pointers.{stepped, step_command, step_follows}
 
-same_not_converted : (o : Operand) (ty : ℕ) → is_converted o ty ty ≡ false
+pub same_not_converted : (o : Operand) (ty : ℕ) → is_converted o ty ty ≡ false
 same_not_converted (Constant z) ty = refl
 same_not_converted (Var x) ty =
     elim (eqb_tells ty ty) [
@@ -79,7 +79,7 @@ module _ (c : Context) (set : IsSetting c) where
       let t' = next_of c.start right used in
       commands_if second (command.Cast t' (var_of b) ∷ []) ++ step_command c set way d t (operand_if second t' b) ∷ []
 
-  number_fits : (made : StoreTyping) (ty : ℕ) (from : Kind) (s : Progress) (ts : List Object) (used : InUse) (o : Operand) (v : Value) → slice_get c.flat.types ty ≡ Some (Whole from)
+  pub number_fits : (made : StoreTyping) (ty : ℕ) (from : Kind) (s : Progress) (ts : List Object) (used : InUse) (o : Operand) (v : Value) → slice_get c.flat.types ty ≡ Some (Whole from)
       → IsOperand c ty used s ts o v → IsOf c made ty v → Fits c set (promoted_kind from) o
   number_fits made ty from s ts used (Var x) v shape operand of = tt
   number_fits made ty from s ts used (Constant z) v shape operand of =
@@ -152,7 +152,7 @@ module _ (c : Context) (set : IsSetting c) where
       ap (λ f. general_code f fails left_fails d a b ty ty' right used make) (same_not_converted a ty)
       ∙ ap (λ g. general_code false g left_fails d a b ty ty' right used make) e
 
-  abbrev steps : Direction → (to : ℕ) → Operator
+  abbrev pub steps : Direction → (to : ℕ) → Operator
   steps Forward to = operator.Forward to
   steps Back to = operator.Back to
 

@@ -82,7 +82,7 @@ by_value (Ok z) go = refl
 by_value (Err a) go = refl
 
 -- of values as they are seen the same
-difference_seen : (types : List Ty) (to : ℕ) (s : Store) (a b : Value)
+pub difference_seen : (types : List Ty) (to : ℕ) (s : Store) (a b : Value)
     → difference types to s (seen s a) (seen s b) ≡ difference types to s a b
 difference_seen types to s a b =
     ap (λ x. if_there x (λ p. if_there (seen s (seen s b)) (λ q. between types to (position_of types to s p) (position_of types to s q)))) (seen_twice s a)

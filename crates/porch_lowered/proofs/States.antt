@@ -101,7 +101,7 @@ module _ (flat : Flat) (under : Environment) (n function : ℕ) (into : Option �
     pub pauses_where : is_paused flat under n (going place x) ≡ (counts_turn (form_of c) && nat_le n x.turns)
     pauses_where = ap (λ found. counts found && nat_le n x.turns) h
 
-    not_paused : counts_turn (form_of c) ≡ false → is_paused flat under n (going place x) ≡ false
+    pub not_paused : counts_turn (form_of c) ≡ false → is_paused flat under n (going place x) ≡ false
     not_paused calm = pauses_where ∙ ap (λ b. b && nat_le n x.turns) calm
 
     pub marks_are : marks_in flat (going place x) (running (frame_at place) callers) (slice_get commands place)

@@ -64,7 +64,7 @@ place_gives P (pointer home leaf) r g = g home leaf
 place_gives P (past home leaf until) r g = tt
 place_gives P indeterminate r g = tt
 
-store_inside : (call : ℕ) (s : Store) (p v : Value) → IsInside call s → Gives (IsInside call) (store s p v)
+pub store_inside : (call : ℕ) (s : Store) (p v : Value) → IsInside call s → Gives (IsInside call) (store s p v)
 store_inside call s p v x =
     there_gives (IsInside call) (seen s p) _ (there_gives (IsInside call) (seen s v) _ (place_gives (IsInside call) (seen s p) _ (λ home leaf.
     inside_changed (λ o. with_leaves o (slice_set o.leaves leaf (seen s v))) call s home x)))
@@ -135,6 +135,7 @@ module _ (c : Context) (set : IsSetting c) where
               typed = subst (λ r. Gives (IsTypedStore c.flat.types c.under.widths made) r) e typed;
               inside = subst (λ r. Gives (IsInside c.call) r) e inside;
               declares = ready.declares;
+              globals = ready.globals;
               temporaries = ready.temporaries;
             };
         value = vof;

@@ -31,6 +31,7 @@ module _ (c : Context) (set : IsSetting c) where
               typed = (kept_types c set made s ts ready).reaches;
               inside = record { variables = ready.inside.variables; callers = ready.inside.callers; here = ready.inside.here };
               declares = ready.declares;
+              globals = ready.globals;
               temporaries = ready.temporaries;
             };
         value = tt;
@@ -55,6 +56,7 @@ module _ (c : Context) (set : IsSetting c) where
               typed = (kept_types c set made s ts ready).forgets (of_call c.call v);
               inside = inside_changed (λ o. with_leaves o (replicate (length o.leaves) indeterminate)) c.call s.store (of_call c.call v) ready.inside;
               declares = ready.declares;
+              globals = ready.globals;
               temporaries = ready.temporaries;
             };
         value = tt;
