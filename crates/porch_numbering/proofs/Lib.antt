@@ -6,3 +6,5 @@ mod Pointers
 mod Sizes
 -- the last types are a program's
 mod Types
+-- the types that a text begins with
+mod Beginning

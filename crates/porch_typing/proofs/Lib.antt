@@ -26,3 +26,5 @@ mod Constants
 mod Declared
 -- expressions, type names and declarators
 mod Expressions
+-- the place in front of a text
+mod Beginning

@@ -1,6 +1,7 @@
 -- What is found by typing is typed.
+use Rattle.std.specs.Prelude.{ℕ, List}
 use Rattle.porch_tree.specs.Mirror.{Expr}
-use Rattle.porch_check.specs.Scopes.{Scopes}
+use Rattle.porch_check.specs.Scopes.{Scopes, first_scopes}
 use Rattle.porch_check.specs.Operands.{Context}
 use Rattle.porch_check.specs.Expressions.{typed_expr}
 use Rattle.porch_typing.specs.States.{IsState, Holds}
@@ -13,3 +14,7 @@ abbrev pub ExpressionsAreTyped : Type 0
 ExpressionsAreTyped =
     (w : End) → IsEnd w → (e : Expr) (c : Context) (s : Scopes) → IsSpelled e → IsState s
     → Holds (Leads w IsKnownForm (IsForm w) s) (typed_expr w.bodies e c s)
+
+-- What holds at each place holds in front of each text.
+abbrev pub TextsBeginInOrder : Type 0
+TextsBeginInOrder = (completes : List (List ℕ)) → IsState (first_scopes completes)

@@ -1,8 +1,13 @@
-//! What is found by typing is typed. The function is a law, and has nothing to run.
+//! What is found by typing is typed. The functions are laws, and have nothing to run.
 
-ghost use Rattle.porch_typing.specs.Laws.{ExpressionsAreTyped};
+ghost use Rattle.porch_typing.specs.Laws.{ExpressionsAreTyped, TextsBeginInOrder};
 
 /// Each expression that breaks no rule has its type in the program that the text comes to.
 pub fn expressions_are_typed()
     ensures { ExpressionsAreTyped }
+{}
+
+/// In front of a text types, names and tags are in order, as the other law asks.
+pub fn a_text_begins_in_order()
+    ensures { TextsBeginInOrder }
 {}

@@ -1,4 +1,4 @@
-//! That what the typing rules accept is typed: what is proved of it so far. There is nothing to run: the function states a
+//! That what the typing rules accept is typed: what is proved of it so far. There is nothing to run: each function states a
 //! law.
 //!
 //! `specs/Shapes` and `specs/States` have what holds at each place of a text and how it goes on, `specs/Ends` the program
