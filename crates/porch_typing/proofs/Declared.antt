@@ -1,6 +1,6 @@
 -- Bases, members, enumeration constants, declarators, parameters and type names, by what stands round them.
 use Rattle.std.proofs.Common.{◌≡◌, ◌<◌, ℕ, ℤ, pos, ◌+ℤ◌, List, [], ◌∷◌, ◌++◌, length, map, refl, subst, inl, inr, ◌⊎◌, arith, Option, Some, None, Bool, true, false, Ok, Err}
-use Rattle.std.specs.Prelude.{⊤, nat_le, if◌then◌else◌, ◌&&◌, not, is_some}
+use Rattle.std.specs.Prelude.{nat_le, if◌then◌else◌, ◌&&◌, not, is_some}
 use Rattle.std.specs.List.{list_any}
 use Rattle.std.specs.Str.{bytes_eq}
 use Rattle.porch_lex.specs.declared.refusal.Rule.TheVariants.{Mismatch, Twice, TooLarge}
@@ -19,23 +19,16 @@ use Rattle.porch_check.specs.Scopes.{Meaning, Tag, Scope, Scopes, of_name, of_ta
 use Rattle.porch_check.specs.Scopes as scope
 use Rattle.porch_check.specs.Operands.{Typed, Value, integer, Typing, go_on}
 use Rattle.porch_check.specs.Constants.{Folded, known, no_constant, undefined, folded}
-use Rattle.porch_check.specs.Declarations.{known_or, constant_of, with_constant, named_type, tag_type, tagged, begun_struct, begin_struct, Members, with_member, declared_member, end_struct, begun_enum, begin_enum, enumerated, if_new, Parameter, Part, star, counted, listed, Declared, stars_of, part_at, if_small, result_type, part_type, type_of_parts, parameter_type, with_parameter, if_new_parameter, declared_parameter, is_incomplete, named_whole, sized_type}
+use Rattle.porch_check.specs.Declarations.{known_or, constant_of, with_constant, named_type, tag_type, tagged, begun_struct, begin_struct, Members, with_member, declared_member, end_struct, begun_enum, begin_enum, enumerated, if_new, Parameter, Part, star, counted, listed, stars_of, part_at, if_small, result_type, part_type, type_of_parts, parameter_type, with_parameter, if_new_parameter, declared_parameter, is_incomplete, named_whole, sized_type}
 use Rattle.porch_typing.specs.Shapes.{Each, IsKnown, IsShape, parts_of, AreShapes, GoOn}
 use Rattle.porch_typing.specs.States.{IsMeaning, IsTag, IsScope, IsState, Stays, IsEnumerator, Holds}
 use Rattle.porch_typing.specs.Ends.{End, IsEnd, IsComplete}
-use Rattle.porch_typing.specs.Forms.{Leads, Passes, Anything}
+use Rattle.porch_typing.specs.Forms.{NoFact, IsType, IsPart, AreParts, Leads, Passes, Anything}
 use Rattle.porch_typing.proofs.Lists.{each_weaker, each_joined}
 use Rattle.porch_typing.proofs.Shapes.{stay, known_on, known_shape, shape_known, new_struct, struct_completed}
 use Rattle.porch_typing.proofs.States.{scope_on, scopes_on, state_on, follow, found, refused, shaped, so, passing, pass_on, passed}
 use Rattle.porch_typing.proofs.Ends.{complete_is_known, complete_on}
 use Rattle.porch_typing.proofs.Calls.{known_meaning}
-
--- a number of a type that is known
-abbrev pub IsType : ℕ → Scopes → Type 0
-IsType n s = IsKnown s.shapes n
-
-abbrev pub NoFact : {A : Type 0} → A → Type 0
-NoFact x = ⊤
 
 kind_small : (kind : Kind) → kind_number kind < 9
 kind_small Char = omega arith
@@ -264,17 +257,6 @@ module _ (w : End) (h : IsEnd w) where
       by false e = refused w _
 
   -- Declarators.
-
-  abbrev pub IsPart : Part → Scopes → Type 0
-  IsPart (star at) s = ⊤
-  IsPart (counted at n) s = ⊤
-  IsPart (listed at ps c) s = Each (λ (p : Parameter). IsKnown s.shapes p.shape) ps × IsScope s.shapes c
-
-  abbrev pub AreParts : List Part → Scopes → Type 0
-  AreParts ps s = Each (λ (p : Part). IsPart p s) ps
-
-  abbrev pub IsDeclared : Declared → Scopes → Type 0
-  IsDeclared d s = AreParts d.parts s
 
   part_later : (s t : Scopes) (p : Part) → GoOn w.last s.shapes t.shapes → IsPart p s → IsPart p t
   part_later s t (star at) g k = tt

@@ -26,7 +26,8 @@ use Rattle.porch_check.specs.Sealing.{sealed_all}
 use Rattle.porch_typing.specs.Shapes.{Each, IsKnown}
 use Rattle.porch_typing.specs.States.{IsState, Holds, Gives}
 use Rattle.porch_typing.specs.Ends.{End, IsEnd, seal}
-use Rattle.porch_typing.specs.Forms.{IsKnownForm, Anything, type_of_value, IsValue, IsOperand, IsForm, Leads, Passes}
+use Rattle.porch_typing.specs.Forms.{IsKnownForm, Anything, type_of_value, IsValue, IsOperand, IsForm, NoFact, IsType, IsPart, AreParts, IsDeclared, Leads, Passes}
+use Rattle.porch_typing.specs.Laws.{DeclaratorsGoOn}
 use Rattle.porch_typing.specs.Spelled.{IsSpelled, AreSpelled, AreSpelledOperands, IsSpelledSuffix, AreSpelledSuffixes, IsSpelledBase, IsSpelledField, AreSpelledFields, IsSpelledConstant, AreSpelledConstants, IsSpelledDeclarator, AreSpelledDeclarators, IsSpelledCore, IsSpelledBracket, AreSpelledBrackets, IsSpelledParam, AreSpelledParams, IsSpelledName}
 use Rattle.porch_typing.proofs.Shapes.{known_on}
 use Rattle.porch_typing.proofs.States.{follow, found, refused, so, pure, formed, under, gives_all, passing, pass_on, passed}
@@ -39,20 +40,20 @@ use Rattle.porch_typing.proofs.CallForms.{form_on, AreKnown, AreForms}
 use Rattle.porch_typing.proofs.Library.{call_rule}
 use Rattle.porch_typing.proofs.Constants.{whole_in_range, character_in_range, literal_bytes}
 use Rattle.porch_typing.proofs.Declared as declared
-use Rattle.porch_typing.proofs.Declared.{IsType, NoFact, kind_known, void_known}
+use Rattle.porch_typing.proofs.Declared.{kind_known, void_known}
 
 module _ (w : End) (h : IsEnd w) where
-  abbrev Expr_ : Scopes → Typing Form → Type 0
-  Expr_ s r = Holds (Leads w IsKnownForm (IsForm w) s) r
+  abbrev FindsForm : Scopes → Typing Form → Type 0
+  FindsForm s r = Holds (Leads w IsKnownForm (IsForm w) s) r
 
-  abbrev Type_ : Scopes → Typing ℕ → Type 0
-  Type_ s r = Holds (Leads w IsType NoFact s) r
+  abbrev FindsType : Scopes → Typing ℕ → Type 0
+  FindsType s r = Holds (Leads w IsType NoFact s) r
 
   -- from a form to a form
   abbrev From : Form → Scopes → Typing Form → Type 0
   From f s r = Holds (Leads w IsKnownForm (λ g. IsForm w f → IsForm w g) s) r
 
-  named_rule : (n : Name) (c : Context) (s : Scopes) → IsState s → Expr_ s (typed_expr w.bodies (name n) c s)
+  named_rule : (n : Name) (c : Context) (s : Scopes) → IsState s → FindsForm s (typed_expr w.bodies (name n) c s)
   named_rule n c s st = by (meaning_of n.bytes s) refl
     where
       by : (o : Option Meaning) → meaning_of n.bytes s ≡ o → Holds (Leads w IsKnownForm (IsForm w) s) (found_or o Unknown n.at (λ m. behind (name_form w.bodies n c m) s))
@@ -137,7 +138,7 @@ module _ (w : End) (h : IsEnd w) where
       so w t _ (declared.end_rule w h at x ms t st2 (g.kept x _ k) ks) (λ y a r n1 n2. tt))
 
   mutual
-    pub expr_rule : (e : Expr) (c : Context) (s : Scopes) → IsSpelled e → IsState s → Expr_ s (typed_expr w.bodies e c s)
+    pub expr_rule : (e : Expr) (c : Context) (s : Scopes) → IsSpelled e → IsState s → FindsForm s (typed_expr w.bodies e c s)
     expr_rule (name n) c s sp st = named_rule n c s st
     expr_rule (whole n) c s sp st =
         found w s (whole_form n) st tt (λ a co. record {
@@ -239,7 +240,7 @@ module _ (w : End) (h : IsEnd w) where
 
     -- types
 
-    pub base_rule : (b : Base) (s : Scopes) → IsSpelledBase b → IsState s → Type_ s (typed_base w.bodies b s)
+    pub base_rule : (b : Base) (s : Scopes) → IsSpelledBase b → IsState s → FindsType s (typed_base w.bodies b s)
     base_rule (kind at ks) s sp st = found w s _ st (kind_known s.shapes (kind_of ks) st.shapes) (λ a co. tt)
     base_rule (void at cs) s sp st = found w s VOID st (void_known s.shapes st.shapes) (λ a co. tt)
     base_rule (typedef_name at n cs) s sp st = declared.named_rule w h n.at n.bytes s st
@@ -298,25 +299,25 @@ module _ (w : End) (h : IsEnd w) where
 
     -- declarators
 
-    pub declarator_rule : (d : Declarator) (s : Scopes) → IsSpelledDeclarator d → IsState s → Holds (Leads w (declared.IsDeclared w h) NoFact s) (typed_declarator w.bodies d s)
+    pub declarator_rule : (d : Declarator) (s : Scopes) → IsSpelledDeclarator d → IsState s → Holds (Leads w IsDeclared NoFact s) (typed_declarator w.bodies d s)
     declarator_rule (declarator at stars c bs) s sp st =
         follow w s (typed_core w.bodies c s) _ (core_rule c s sp.0 st) (λ d t g st2 kd.
         follow w t (typed_brackets w.bodies bs at t) _ (brackets_rule bs at t sp.1 st2) (λ ps u g2 st3 kp.
         found w u _ st3 (declared.all_parts w h d.parts ps at stars u (declared.parts_later w h t u d.parts g2 kd) kp) (λ a co n1 n2. tt)))
 
-    core_rule : (c : Core) (s : Scopes) → IsSpelledCore c → IsState s → Holds (Leads w (declared.IsDeclared w h) NoFact s) (typed_core w.bodies c s)
+    core_rule : (c : Core) (s : Scopes) → IsSpelledCore c → IsState s → Holds (Leads w IsDeclared NoFact s) (typed_core w.bodies c s)
     core_rule lacking s sp st = found w s _ st tt (λ a co. tt)
     core_rule (named n) s sp st = found w s _ st tt (λ a co. tt)
     core_rule (inner at d) s sp st = declarator_rule d s sp st
 
-    brackets_rule : (bs : Brackets) (at : ℕ) (s : Scopes) → AreSpelledBrackets bs → IsState s → Holds (Leads w (declared.AreParts w h) NoFact s) (typed_brackets w.bodies bs at s)
+    brackets_rule : (bs : Brackets) (at : ℕ) (s : Scopes) → AreSpelledBrackets bs → IsState s → Holds (Leads w AreParts NoFact s) (typed_brackets w.bodies bs at s)
     brackets_rule no_brackets at s sp st = found w s [] st tt (λ a co. tt)
     brackets_rule (with_bracket b bs) at s sp st =
         follow w s (typed_bracket w.bodies b at s) _ (bracket_rule b at s sp.0 st) (λ p t g st2 kp.
         follow w t (typed_brackets w.bodies bs at t) _ (brackets_rule bs at t sp.1 st2) (λ ps u g2 st3 kps.
         found w u (p ∷ ps) st3 ((declared.parts_later w h t u (p ∷ []) g2 (kp, tt)).0, kps) (λ a co n1 n2. tt)))
 
-    bracket_rule : (b : Bracket) (at : ℕ) (s : Scopes) → IsSpelledBracket b → IsState s → Holds (Leads w (declared.IsPart w h) NoFact s) (typed_bracket w.bodies b at s)
+    bracket_rule : (b : Bracket) (at : ℕ) (s : Scopes) → IsSpelledBracket b → IsState s → Holds (Leads w IsPart NoFact s) (typed_bracket w.bodies b at s)
     bracket_rule (count absent) at s sp st = found w s (counted at None) st tt (λ a co. tt)
     bracket_rule (count (present e)) at s sp st =
         follow w s (used (at_of e) (typed_expr w.bodies e plain s)) _ (used_rule w h s (at_of e) _ (expr_rule e plain s sp st)) (λ x t g st2 k.
@@ -343,9 +344,13 @@ module _ (w : End) (h : IsEnd w) where
         pass_on w u (type_of_parts d.parts x u) _ (passing w u _ (declared.type_rule w h d.parts x u st3 (known_on w.last t.shapes u.shapes x g2 kx) kd)) (λ y v g3 st4 ky.
         declared.declared_parameter_rule w h (base_at b) k d.name y v st4 ky)))
 
-    pub name_type_rule : (t : TypeName) (s : Scopes) → IsSpelledName t → IsState s → Type_ s (typed_name w.bodies t s)
+    pub name_type_rule : (t : TypeName) (s : Scopes) → IsSpelledName t → IsState s → FindsType s (typed_name w.bodies t s)
     name_type_rule (type_name b d) s sp st =
         follow w s (typed_base w.bodies b s) _ (base_rule b s sp.0 st) (λ x t g st2 kx.
         follow w t (typed_declarator w.bodies d t) _ (declarator_rule d t sp.1 st2) (λ d u g2 st3 kd.
         so w u _ (declared.type_rule w h (map (part_at (base_at b)) d.parts) x u st3 (known_on w.last t.shapes u.shapes x g2 kx) (declared.placed_parts w h (base_at b) d.parts u kd))
         (λ y a r n1 n2. tt)))
+
+  pub declarators_rule : DeclaratorsGoOn w
+  declarators_rule =
+      record { bases = base_rule; names = name_type_rule; declarators = declarator_rule; types = declared.type_rule w h }

@@ -79,11 +79,11 @@ module _ (w : End) (h : IsEnd w) where
   with_byte_typed c (with_print (tree.bytes bs) ps) k all = (All-cons (λ b. b < 256) c bs k all.0, all.1)
   with_byte_typed c (with_print p ps) k all = (All-cons (λ b. b < 256) c [] k (All-nil (λ b. b < 256)), all)
 
-  abbrev Prints_ : List Directive → List Argument → Prints → Type 0
-  Prints_ ds args ps = Each IsByte ds → AreForms w h args → ShowAll ps
+  abbrev PrintsAll : List Directive → List Argument → Prints → Type 0
+  PrintsAll ds args ps = Each IsByte ds → AreForms w h args → ShowAll ps
 
   prints_rule : (ds : List Directive) (args : List Argument) (s : Scopes) → IsState s → AreKnown args s
-      → Holds (Leads w Anything (Prints_ ds args) s) (prints_of ds args s)
+      → Holds (Leads w Anything (PrintsAll ds args) s) (prints_of ds args s)
   prints_rule [] args s st k = found w s no_prints st tt (λ a c d f. tt)
   prints_rule (byte b ∷ ds) args s st k =
       follow w s (prints_of ds args s) _ (prints_rule ds args s st k) (λ ps t g st2 k2.

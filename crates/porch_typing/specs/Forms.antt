@@ -1,5 +1,5 @@
 -- What expressions are found to be has its type in the program that the text comes to.
-use Rattle.std.specs.Prelude.{ℕ, ◌≡◌, ⊤, IsTrue, true, Option, Some, None}
+use Rattle.std.specs.Prelude.{ℕ, ◌≡◌, ⊤, IsTrue, true, List, Option, Some, None}
 use Rattle.std.specs.List.{list_any}
 use Rattle.std.specs.Str.{bytes_eq}
 use Rattle.porch_types.specs.declared.shapes.Kind.{Kind}
@@ -8,9 +8,10 @@ use Rattle.porch_typed.specs.Typed.{type_of_kind, AreBytes, HasType, IsPlaceOf}
 use Rattle.porch_check.specs.Shapes.{pointer, structure}
 use Rattle.porch_check.specs.Scopes.{Scopes}
 use Rattle.porch_check.specs.Operands.{Value, integer, address, no_address, record_of, nothing, Typed, Form, operand, place, literal, size, sized, callee, library_callee}
+use Rattle.porch_check.specs.Declarations.{Parameter, Part, star, counted, listed, Declared}
 use Rattle.porch_check.specs.Sealing.{sealed, sealed_place}
-use Rattle.porch_typing.specs.Shapes.{IsKnown, IsShape, ComeTo, GoOn}
-use Rattle.porch_typing.specs.States.{IsState, Stays, KeepsNames}
+use Rattle.porch_typing.specs.Shapes.{Each, IsKnown, IsShape, ComeTo, GoOn}
+use Rattle.porch_typing.specs.States.{IsScope, IsState, Stays, KeepsNames}
 use Rattle.porch_typing.specs.Ends.{End, seal, IsComplete, Agrees}
 
 -- the types that a form names are known
@@ -23,6 +24,26 @@ IsKnownForm f s = ⊤
 -- nothing that later parts rely on
 abbrev pub Anything : {A : Type 0} → A → Scopes → Type 0
 Anything x s = ⊤
+
+-- nothing is said of the program
+abbrev pub NoFact : {A : Type 0} → A → Type 0
+NoFact x = ⊤
+
+-- the number of a type that is known
+abbrev pub IsType : ℕ → Scopes → Type 0
+IsType n s = IsKnown s.shapes n
+
+-- what stands round a name names known types, and a parameter list's scope is in order
+abbrev pub IsPart : Part → Scopes → Type 0
+IsPart (star at) s = ⊤
+IsPart (counted at n) s = ⊤
+IsPart (listed at ps c) s = Each (λ (p : Parameter). IsKnown s.shapes p.shape) ps × IsScope s.shapes c
+
+abbrev pub AreParts : List Part → Scopes → Type 0
+AreParts ps s = Each (λ (p : Part). IsPart p s) ps
+
+abbrev pub IsDeclared : Declared → Scopes → Type 0
+IsDeclared d s = AreParts d.parts s
 
 module _ (w : End) where
   -- the type of a value; a null pointer of no type is an int
