@@ -1,0 +1,2 @@
+-- operands of rows
+pub mod Rows
