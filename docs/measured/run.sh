@@ -1,6 +1,6 @@
 #!/usr/bin/env bash
 # Proves and builds a measuring program in a copy of the crates that it stands on, and runs it. usage: [WITH=..] run.sh NAME WORD..
-# NAME is heap_times, value_times, type_times, find_times, flat_times, rewrite_times, abstract_times, lex_times or depth_times;
+# NAME is heap_times, value_times, type_times, find_times, flat_times, rewrite_times, abstract_times, lex_times, depth_times or image_times;
 # WITH is put before the run, as a profiler's call. Files among the words have whole paths. NAME.txt is the program, and NAME_loop.txt, where it is there, what
 # the loop of its `run` keeps.
 set -eu
@@ -17,6 +17,8 @@ case $name in
     rewrite_times) base="$flat porch_objects porch_abstract porch_rewrite" kit=sqlite_items ;;
     abstract_times) base="$flat porch_objects porch_sparse porch_live porch_abstract porch_steps" kit=sqlite_items ;;
     find_times) base='porch_types porch_layout porch_metrics porch_find' first=none ;;
+    image_times)
+        base="$flat porch_layout porch_metrics porch_find porch_points porch_ucf" kit='sqlite_items sha2' first=none ;;
     lex_times) base='porch_tree porch_lex' ;;
     depth_times) base='porch_tree porch_lex porch_walk porch_depth' kit='sqlite_items indexmap thiserror' ;;
     *) base='porch_types porch_values porch_layout porch_metrics porch_heap' first=none ;;

@@ -19,6 +19,11 @@ use Rattle.porch_ucf.specs.Reading.{image_of}
 abbrev pub AreBytes : List ℕ → Type 0
 AreBytes text = (i : ℕ) → get_or text i 0 < 256
 
+-- the text of a file whose gate is open
+pub record IsOpen (text : List ℕ) : Type 0 where
+  pub bytes : AreBytes text
+  pub gate : take 1 text ≡ take 1 gate_and_name
+
 -- an open file whose front has no flaw begins with the file of what it holds
 abbrev pub FilesAreSpelled : Type 0
 FilesAreSpelled =
@@ -31,6 +36,11 @@ abbrev pub FlawlessFilesAreGood : Type 0
 FlawlessFilesAreGood =
     (long : ℕ) (program : Flat) (text : List ℕ)
     → IsFlawless long program (sha256 (Text program)) text → IsGood program (image_of text)
+
+-- a checkpoint that the program can be gone on from under a layout whose long has so many bytes
+pub record IsResumable (long : ℕ) (program : Flat) (c : Checkpoint) : Type 0 where
+  pub is_good : IsGood program c
+  pub fits : Fits long program c
 
 -- a row's two numbers of 32 bits
 abbrev pub FrameFits : FrameRow → Type 0

@@ -12,7 +12,7 @@ ghost use Rattle.porch_ucf.specs.Files.{file_of};
 ghost use Rattle.porch_ucf.specs.FirstFlaw.{IsFirstFlaw, IsFlawless};
 ghost use Rattle.porch_ucf.specs.Headers.{header_of};
 ghost use Rattle.porch_ucf.specs.Images.{Checkpoint, rows_size};
-ghost use Rattle.porch_ucf.specs.Laws.{IsReadable, IsReadTo};
+ghost use Rattle.porch_ucf.specs.Laws.{IsOpen, IsReadable, IsReadTo, IsResumable};
 ghost use Rattle.porch_ucf.specs.Reading.{bytes_in, image_of};
 ghost use Rattle.porch_ucf.specs.inside.Checked.{IsDataFlaw, IsDataSound, IsFlaw, IsSound};
 ghost use Rattle.porch_ucf.specs.inside.Leaves.{ArePlaced, ArePointees, EndWithin};
@@ -22,7 +22,7 @@ use crate::fault::ImageFault;
 use crate::front::{read_front, rows_size};
 use crate::header::{HEADER_BYTES, Header};
 use crate::image::Image;
-use crate::laws::{files_are_read_back, first_flaws_are_one};
+use crate::laws::{files_are_read_back, files_are_spelled, first_flaws_are_one};
 use crate::leaves::{Sought, check_leaves};
 use crate::resumable::{check_blocks, check_frames};
 use crate::rows::{read_blocks, read_frames};
@@ -52,7 +52,12 @@ pub fn read_image(
     ensures again { (c : Checkpoint) (rest : List ℕ)
         → IsReadable layout.now.long program.now c → digest.now ≡ sha256 (Text program.now)
         → text.now ≡ file_of c ++ rest → IsReadTo c result }
+    ensures begins { IsOpen text.now → IfOk result (λ image. file_of image
+        ≡ take (SEAL_BYTES + image.header.body) text.now) }
+    ensures good { digest.now ≡ sha256 (Text program.now)
+        → IfOk result (IsResumable layout.now.long program.now) }
 {
+    files_are_spelled();
     files_are_read_back();
     first_flaws_are_one();
     read_flawless(alloc, program, digest, text, layout)

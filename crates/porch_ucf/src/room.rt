@@ -3,6 +3,8 @@
 ghost use Rattle.std.specs.Prelude.{◌≡◌, ◌≤◌, ◌+◌, ◌++◌, length, vec_capacity};
 ghost use Rattle.byteorder.specs.Endian.{big_bytes};
 
+use byteorder::{BigEndian, ByteOrder};
+
 /// Puts bytes last.
 pub(crate) fn put(into: &mut Vec<u8>, bytes: &[u8])
     requires { length into.old.items + length bytes.now ≤ vec_capacity into.old }
@@ -19,7 +21,9 @@ pub(crate) fn put_u32(into: &mut Vec<u8>, number: u32)
     ensures length { length into.new.items ≡ length into.old.items + 4 }
     ensures room { vec_capacity into.old ≤ vec_capacity into.new }
 {
-    put(into, &number.to_be_bytes());
+    let mut bytes = [0; 4];
+    BigEndian::write_u32(&mut bytes, number);
+    put(into, &bytes);
 }
 
 /// Puts a number of 64 bits last.
@@ -29,5 +33,7 @@ pub(crate) fn put_u64(into: &mut Vec<u8>, number: u64)
     ensures length { length into.new.items ≡ length into.old.items + 8 }
     ensures room { vec_capacity into.old ≤ vec_capacity into.new }
 {
-    put(into, &number.to_be_bytes());
+    let mut bytes = [0; 8];
+    BigEndian::write_u64(&mut bytes, number);
+    put(into, &bytes);
 }

@@ -2,4 +2,10 @@
 #![tactic(auto)]
 
 #[cfg(test)]
-mod files;
+mod changes;
+#[cfg(test)]
+mod flaws;
+#[cfg(test)]
+mod sample;
+#[cfg(test)]
+mod words;
