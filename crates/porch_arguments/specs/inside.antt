@@ -1,0 +1,2 @@
+-- values of arguments, one after another
+pub mod Values
