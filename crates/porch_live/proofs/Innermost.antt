@@ -1,7 +1,7 @@
 -- The last entry with other objects, among the calls.
-use Rattle.std.proofs.Common.{◌≡◌, ℕ, zero, suc, ◌+◌, ◌≤◌, List, [], ◌∷◌, length, Some, slice_get, refl, ap, ◌∙◌, arith}
+use Rattle.std.proofs.Common.{◌≡◌, ℕ, zero, suc, ◌+◌, List, [], ◌∷◌, length, Some, slice_get, ap, ◌∙◌, arith}
 use Rattle.std.specs.Prelude.{slice_set}
-use Rattle.porch_objects.specs.Store.{Object, Activation}
+use Rattle.porch_objects.specs.Store.{Activation}
 use Rattle.porch_live.specs.Innermost.{first_variables, with_first}
 use Rattle.porch_live.specs.inside.Entries.{IsRising, IsBelow, stacked}
 

@@ -152,9 +152,17 @@ impl Leaves {
     {
         match self {
             Leaves::One(only) => *only = Value::Number(i128::from(int)),
-            Leaves::Many(_) => self.set_first(Value::Number(i128::from(int))),
-            Leaves::Few(_) => self.set_first(Value::Number(i128::from(int))),
+            Leaves::Many(_) => self.set_first_number(int),
+            Leaves::Few(_) => self.set_first_number(int),
         }
+    }
+
+    // It isn't inlined, so that no value is made where there is one leaf.
+    #[inline(never)]
+    fn set_first_number(&mut self, int: i32)
+        ensures { values_in self.new ≡ slice_set (values_in self.old) 0 (Number int) }
+    {
+        self.set_first(Value::Number(i128::from(int)));
     }
 
     /// All leaves become one value.

@@ -1,7 +1,7 @@
-use Rattle.std.proofs.Common.{◌≡◌, ◌-◌, ◌+◌, ℕ, [], length, Some, slice_get, arith, refl, sym, ap, ◌∙◌}
+use Rattle.std.proofs.Common.{◌≡◌, ◌-◌, ◌+◌, ℕ, [], length, Some, slice_get, arith, refl}
 use Rattle.std.proofs.lemmas.Option.{slice_get_read}
 use Rattle.porch_live.specs.inside.Entries.{with_variables}
-use Rattle.porch_live.proofs.Innermost.{variables_first, stacked_last_set, rising_set, below_set}
+use Rattle.porch_live.proofs.Innermost.{stacked_last_set, rising_set, below_set}
 use Rattle.porch_live.proofs.entries.put_last.Goals as goal
 
 pub returns-then-len-gt0-clause-calls : goal.returns-then-len-gt0-clause-calls
