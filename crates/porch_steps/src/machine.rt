@@ -72,7 +72,8 @@ impl Abstract {
         ensures under_same { self.new.under ≡ self.old.under }
     {
         let flat = program.flat();
-        self.run.step(self.alloc, flat, &self.labels, &self.prepared, self.widths)
+        self.run
+            .take_next(self.alloc, flat, &self.labels, self.widths)
     }
 
     /// Takes steps as [`Abstract::step`] does, until one doesn't answer `Went`, and at most so many: the answer of the
