@@ -1,6 +1,7 @@
 pub mod Rising
 pub mod Found
 pub mod Stacked
+pub mod Innermost
 pub mod Blocks
 pub mod Kept
 pub mod Unknown

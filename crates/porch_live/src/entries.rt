@@ -3,6 +3,7 @@ ghost use Rattle.std.specs.Prelude.{◌≡◌, ℕ, ◌++◌, ◌∷◌, [], IfS
 ghost use Rattle.std.specs.Option.{option_map};
 ghost use Rattle.porch_objects.specs.Store.{variables_in, changed_calls, innermost_in, callers_in};
 ghost use Rattle.porch_objects.specs.Pointers.{without_block};
+ghost use Rattle.porch_live.specs.Innermost.{first_variables, with_first};
 ghost use Rattle.porch_live.specs.inside.Edits.{done, first_becomes};
 ghost use Rattle.porch_live.specs.inside.Entries.{IsRising, IsBelow, StandsAt, HasNone, stacked, blocks_of, ended, is_live};
 
@@ -66,6 +67,37 @@ pub(crate) fn set_last(entries: &mut Vec<Entry>, index: usize, value: Value)
     if len > 0 {
         let entry = &mut entries[len - 1];
         entry.set_first(index, value);
+    }
+}
+
+/// Takes the objects of the last entry out, where there is one.
+pub(crate) fn take_last(entries: &mut Vec<Entry>) -> Option<Vec<Object>>
+    ensures objects { option_map (λ objects. objects.items) result
+        ≡ first_variables (stacked entries.old.items []) }
+    ensures calls { stacked entries.new.items [] ≡ with_first (stacked entries.old.items []) [] }
+    ensures rising { (low : ℕ) → IsRising low entries.old.items → IsRising low entries.new.items }
+    ensures below { (high : ℕ) → IsBelow high entries.old.items → IsBelow high entries.new.items }
+{
+    let len = entries.len();
+    if len > 0 {
+        let entry = &mut entries[len - 1];
+        Some(entry.take())
+    } else {
+        None
+    }
+}
+
+/// Gives the last entry other objects, where there is one.
+pub(crate) fn put_last(entries: &mut Vec<Entry>, objects: Vec<Object>)
+    ensures calls { stacked entries.new.items []
+        ≡ with_first (stacked entries.old.items []) objects.items }
+    ensures rising { (low : ℕ) → IsRising low entries.old.items → IsRising low entries.new.items }
+    ensures below { (high : ℕ) → IsBelow high entries.old.items → IsBelow high entries.new.items }
+{
+    let len = entries.len();
+    if len > 0 {
+        let entry = &mut entries[len - 1];
+        entry.put(objects);
     }
 }
 

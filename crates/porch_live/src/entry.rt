@@ -10,6 +10,7 @@ use crate::object::{Object, edit_one, set_first};
 use crate::value::Value;
 use std::alloc::AllocError;
 use std::marker::Model;
+use std::mem;
 
 /// The objects of a call or of an allocation. Contracts see it as a call with its variables.
 #[derive(Drop)]
@@ -66,6 +67,22 @@ impl Entry {
         ensures { result ≡ is_live self.now }
     {
         !self.objects.is_empty()
+    }
+
+    /// Takes its objects out: it has none then.
+    pub(crate) fn take(&mut self) -> Vec<Object>
+        ensures objects { result.items ≡ self.old.variables }
+        ensures rest { self.new ≡ with_variables self.old [] }
+    {
+        let alloc = *self.objects.allocator();
+        mem::replace(&mut self.objects, Vec::new(alloc))
+    }
+
+    /// Gives it other objects.
+    pub(crate) fn put(&mut self, objects: Vec<Object>)
+        ensures { self.new ≡ with_variables self.old objects.items }
+    {
+        self.objects = objects;
     }
 
     /// Its objects come to their end.

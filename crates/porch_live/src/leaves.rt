@@ -1,11 +1,11 @@
 //! The values of an object's leaves.
-ghost use Rattle.std.specs.Prelude.{◌≡◌, ◌+◌, ◌<◌, ◌≤◌, length, take, drop, replicate, slice_get, slice_set, slice_index_or, IfOk, OnOk, OnErr};
+ghost use Rattle.std.specs.Prelude.{◌≡◌, ◌+◌, ◌<◌, ◌≤◌, length, take, drop, replicate, slice_get, slice_set, slice_index_or, IfOk, IfSome, OnOk, OnErr};
 ghost use Rattle.porch_sparse.specs.Repeated.{repeated};
-ghost use Rattle.porch_live.specs.declared.value.Value.TheVariants.{Indeterminate};
+ghost use Rattle.porch_live.specs.declared.value.Value.TheVariants.{Indeterminate, Number};
 ghost use Rattle.porch_live.specs.inside.Edits.{spliced_in};
 ghost use Rattle.porch_live.specs.inside.Leaves.{values_in};
 
-use crate::value::Value;
+use crate::value::{Value, int_in};
 use porch_sparse::Sparse;
 use std::alloc::{AllocError, Global};
 use std::slice::from_ref;
@@ -130,6 +130,39 @@ impl Leaves {
             }
             Leaves::Few(values) => values.set_first(value),
         }
+    }
+
+    /// The int in the first leaf, where there is one leaf and it holds one.
+    #[inline(always)]
+    pub(crate) fn only_int(&self) -> Option<i32>
+        ensures { IfSome result (λ z. slice_index_or (values_in self.now) 0 Indeterminate
+            ≡ Number z) }
+    {
+        match self {
+            Leaves::One(only) => int_in(only),
+            Leaves::Many(_) => None,
+            Leaves::Few(_) => None,
+        }
+    }
+
+    /// The first leaf becomes an int, where there is one.
+    #[inline(always)]
+    pub(crate) fn set_first_int(&mut self, int: i32)
+        ensures { values_in self.new ≡ slice_set (values_in self.old) 0 (Number int) }
+    {
+        match self {
+            Leaves::One(only) => *only = Value::Number(i128::from(int)),
+            Leaves::Many(_) => self.set_first_number(int),
+            Leaves::Few(_) => self.set_first_number(int),
+        }
+    }
+
+    // It isn't inlined, so that no value is made where there is one leaf.
+    #[inline(never)]
+    fn set_first_number(&mut self, int: i32)
+        ensures { values_in self.new ≡ slice_set (values_in self.old) 0 (Number int) }
+    {
+        self.set_first(Value::Number(i128::from(int)));
     }
 
     /// All leaves become one value.

@@ -25,7 +25,7 @@ mod texts;
 mod value;
 mod zeros;
 
-pub use object::{Object, Root};
+pub use object::{Object, Root, int_at, set_int_at};
 pub use roots::leaves_of;
 pub use store::Store;
 pub use value::{Home, Value};

@@ -1,7 +1,8 @@
 //! Objects, each a root with the values of its leaves.
-ghost use Rattle.std.specs.Prelude.{◌≡◌, ◌+◌, ◌<◌, ◌≤◌, ◌∷◌, [], nat_le, take, drop, length, map, replicate, slice_get, slice_set, slice_index_or, IfOk, OnOk, OnErr};
-ghost use Rattle.porch_objects.specs.Store.{indeterminate, with_leaves, changed_at, fresh, zeroed};
+ghost use Rattle.std.specs.Prelude.{◌≡◌, ◌+◌, ◌<◌, ◌≤◌, ◌∷◌, [], nat_le, take, drop, length, map, replicate, slice_get, slice_set, slice_index_or, IfOk, IfSome, OnOk, OnErr};
+ghost use Rattle.porch_objects.specs.Store.{indeterminate, number, with_leaves, changed_at, leaf_of, fresh, zeroed};
 ghost use Rattle.porch_objects.specs.Pointers.{block_of};
+ghost use Rattle.porch_live.specs.Innermost.{with_int};
 ghost use Rattle.porch_live.specs.Views.{value_of, root_of};
 ghost use Rattle.porch_live.specs.inside.Edits.{done, first_becomes, with_part};
 ghost use Rattle.porch_live.specs.inside.Leaves.{values_in};
@@ -106,6 +107,22 @@ impl Object {
         self.leaves.set_first(value);
     }
 
+    /// The int that it holds, where it has one leaf and that holds one.
+    #[inline(always)]
+    pub fn int(&self) -> Option<i32>
+        ensures { IfSome result (λ z. slice_index_or self.now.leaves 0 indeterminate ≡ number z) }
+    {
+        self.leaves.only_int()
+    }
+
+    /// Gives the first leaf an int, where there is one.
+    #[inline(always)]
+    pub fn set_int(&mut self, int: i32)
+        ensures { self.new ≡ with_leaves self.old (slice_set self.old.leaves 0 (number int)) }
+    {
+        self.leaves.set_first_int(int);
+    }
+
     pub(crate) fn edit(&mut self, edit: &Edit) -> Result<(), AllocError>
         ensures { self.new ≡ done edit.now result self.old }
     {
@@ -163,6 +180,31 @@ impl Object {
         } else {
             Ok(())
         }
+    }
+}
+
+/// The int that one of these objects holds, where it is known.
+#[inline(always)]
+pub fn int_at(objects: &[Object], index: u32) -> Option<i32>
+    ensures { IfSome result (λ z. leaf_of (slice_get objects.now index) 0 ≡ number z) }
+{
+    let at = index as usize;
+    if at < objects.len() {
+        objects[at].int()
+    } else {
+        None
+    }
+}
+
+/// Gives the first leaf of one of these objects an int, where it is there.
+#[inline(always)]
+pub fn set_int_at(objects: &mut [Object], index: u32, int: i32)
+    ensures { objects.new ≡ with_int objects.old index int }
+{
+    let at = index as usize;
+    if at < objects.len() {
+        let object = &mut objects[at];
+        object.set_int(int);
     }
 }
 

@@ -1,15 +1,17 @@
 //! The store: what lives, and how calls, allocations and checkpoints are counted.
-ghost use Rattle.std.specs.Prelude.{◌≡◌, is_some, IfOk, OnOk, OnErr};
+ghost use Rattle.std.specs.Prelude.{◌≡◌, [], is_some, IfOk, OnOk, OnErr};
 ghost use Rattle.std.specs.Option.{option_map};
 ghost use Rattle.porch_objects.specs.Store.{store_of, object_at, seen, leaf_at, changed, forgotten, with_leaf_at, innermost, variable_home, entered, left, reached_one, with_blocks};
 ghost use Rattle.porch_objects.specs.Pointers.{allocate, release, without_block};
 ghost use Rattle.porch_live.specs.inside.Edits.{done};
 ghost use Rattle.porch_live.specs.Answers.{after, allocation_of};
+ghost use Rattle.porch_live.specs.Innermost.{innermost_variables, with_innermost};
 ghost use Rattle.porch_live.specs.Views.{home_of, value_of};
 
 use crate::edit::Edit;
 use crate::entries::{
-    edit_in, end_block, last_number, last_object, object_in, push, remove_last, set_last,
+    edit_in, end_block, last_number, last_object, object_in, push, put_last, remove_last, set_last,
+    take_last,
 };
 use crate::entry::Entry;
 use crate::object::{Object, Root, edit_one, new_object, one_object};
@@ -133,6 +135,22 @@ impl Store {
             (value_of value) }
     {
         set_last(&mut self.calls, variable as usize, value);
+    }
+
+    /// Takes the variables of the innermost call out, where there is one: it has none then.
+    pub fn take_variables(&mut self) -> Option<Vec<Object>>
+        ensures variables { option_map (λ variables. variables.items) result
+            ≡ innermost_variables self.old }
+        ensures rest { self.new ≡ with_innermost self.old [] }
+    {
+        take_last(&mut self.calls)
+    }
+
+    /// Gives the innermost call other variables, where there is one.
+    pub fn put_variables(&mut self, variables: Vec<Object>)
+        ensures { self.new ≡ with_innermost self.old variables.items }
+    {
+        put_last(&mut self.calls, variables);
     }
 
     /// Gives a leaf a value. Where there is no such leaf nothing changes. A leaf of a large object may need

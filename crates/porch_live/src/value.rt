@@ -1,6 +1,7 @@
 //! Names of objects, and what a leaf holds.
-ghost use Rattle.std.specs.Prelude.{◌≡◌, if◌then◌else◌};
+ghost use Rattle.std.specs.Prelude.{◌≡◌, if◌then◌else◌, IfSome};
 ghost use Rattle.porch_objects.specs.Store.{indeterminate, is_good};
+ghost use Rattle.porch_live.specs.declared.value.Value.TheVariants.{Number};
 ghost use Rattle.porch_live.specs.Views.{value_of};
 ghost use Rattle.porch_live.specs.inside.Uses.{access_after, block_to_free, count_of, there};
 ghost use Rattle.porch_live.specs.Answers.{value_in};
@@ -95,6 +96,35 @@ pub(crate) fn count_of(count: i128) -> Option<u32>
         None
     } else {
         Some(count as u32)
+    }
+}
+
+/// The int that a value is, where it is one.
+#[inline(always)]
+pub(crate) fn int_in(value: &Value) -> Option<i32>
+    ensures { IfSome result (λ z. value.now ≡ Number z) }
+{
+    match value {
+        Value::Number(number) => int_of(*number),
+        Value::Null => None,
+        Value::Pointer { home: _, leaf: _ } => None,
+        Value::Past {
+            home: _,
+            leaf: _,
+            until: _,
+        } => None,
+        Value::Indeterminate => None,
+    }
+}
+
+#[inline(always)]
+fn int_of(number: i128) -> Option<i32>
+    ensures { IfSome result (λ z. z ≡ number) }
+{
+    if number < -2_147_483_648 || number > 2_147_483_647 {
+        None
+    } else {
+        Some(number as i32)
     }
 }
 

@@ -6,23 +6,25 @@ ghost use Rattle.porch_abstract.specs.Held.{Answers};
 ghost use Rattle.porch_abstract.specs.whole.Machine.{begin, next};
 ghost use Rattle.porch_abstract.specs.whole.Run.{counts_next};
 ghost use Rattle.porch_steps.specs.Held.{Fits};
+ghost use Rattle.porch_steps.specs.Ran.{Ran};
 
 use crate::beginning::{global_objects, labels_of};
-use crate::frame::Phase;
 use crate::run::Run;
 use porch_abstract::AStep;
 use porch_flat::whole::{Labels, Valid};
+use porch_quick::Prepared;
 use porch_values::Widths;
 use std::alloc::{AllocError, Global};
 use std::marker::Model;
 
 /// A run of a program, over an input that is empty. Contracts see its state, which is that of the definitions, the
-/// environment that it was made for, and the places of the labels of its program.
+/// environment that it was made for, and the places of the labels and the quick commands of its program.
 #[derive(Drop)]
 pub struct Abstract {
     alloc: Global,
     widths: Widths,
     labels: Vec<Labels>,
+    prepared: Prepared,
     run: Run,
 }
 
@@ -33,7 +35,7 @@ impl Model for Abstract {
 
     ghost Value = { Held };
 
-    ghost view = { λ a. record { under = without_input a.widths; state = state_of a.run; labels = a.labels.items } };
+    ghost view = { λ a. record { under = without_input a.widths; state = state_of a.run; labels = a.labels.items; prepared = a.prepared } };
 }
 
 impl Abstract {
@@ -46,11 +48,13 @@ impl Abstract {
     {
         let flat = program.flat();
         let labels = labels_of(alloc, flat.functions.as_slice())?;
+        let prepared = Prepared::new(alloc, flat)?;
         let globals = global_objects(alloc, &flat.types, flat.globals.as_slice())?;
         Ok(Abstract {
             alloc,
             widths,
             labels,
+            prepared,
             run: Run::new(alloc, globals),
         })
     }
@@ -68,13 +72,27 @@ impl Abstract {
         ensures under_same { self.new.under ≡ self.old.under }
     {
         let flat = program.flat();
-        match self.run.phase {
-            Phase::Begun => self.run.start(self.alloc, flat, self.widths),
-            Phase::Running => self
-                .run
-                .proceed(self.alloc, flat, &self.labels, self.widths),
-            Phase::Over => Ok(AStep::Ended { value: 0 }),
-        }
+        self.run
+            .take_next(self.alloc, flat, &self.labels, self.widths)
+    }
+
+    /// Takes steps as [`Abstract::step`] does, until one doesn't answer `Went`, and at most so many: the answer of the
+    /// last. So `Went` tells that all were taken. Many steps cost less in one call than in one call each.
+    pub fn run(&mut self, program: &Valid, most: u64) -> Result<AStep, AllocError>
+        requires fits { Fits program.now self.old }
+        ensures ran { Ran program.now self.old.under self.old.state self.new.state most result }
+        ensures fits { Fits program.now self.new }
+        ensures under_same { self.new.under ≡ self.old.under }
+    {
+        let flat = program.flat();
+        self.run.run(
+            self.alloc,
+            flat,
+            &self.labels,
+            &self.prepared,
+            self.widths,
+            most,
+        )
     }
 
     /// Whether the next step counts a turn. It takes no memory.

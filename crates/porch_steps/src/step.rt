@@ -108,8 +108,27 @@ impl Run {
         }
     }
 
-    /// The next step in a function: its next command, and behind the last its end.
-    pub(crate) fn proceed(
+    /// The next step, whichever it is.
+    pub(crate) fn take_next(
+        &mut self,
+        alloc: Global,
+        flat: &Flat,
+        labels: &[Labels],
+        widths: Widths,
+    ) -> Result<AStep, AllocError>
+        requires labels { AreLabels flat.now labels.now }
+        ensures steps { Answers (next flat.now (without_input widths) (state_of self.old))
+            (state_of self.old) (state_of self.new) result }
+    {
+        match self.phase {
+            Phase::Begun => self.start(alloc, flat, widths),
+            Phase::Running => self.proceed(alloc, flat, labels, widths),
+            Phase::Over => Ok(AStep::Ended { value: 0 }),
+        }
+    }
+
+    // The next step in a function: its next command, and behind the last its end.
+    fn proceed(
         &mut self,
         alloc: Global,
         flat: &Flat,
@@ -129,13 +148,8 @@ impl Run {
         }
     }
 
-    /// The first step, the call of `main`.
-    pub(crate) fn start(
-        &mut self,
-        alloc: Global,
-        flat: &Flat,
-        widths: Widths,
-    ) -> Result<AStep, AllocError>
+    // The first step, the call of `main`.
+    fn start(&mut self, alloc: Global, flat: &Flat, widths: Widths) -> Result<AStep, AllocError>
         requires begun { self.old.phase ≡ Phase.Begun }
         ensures steps { Answers (next flat.now (without_input widths) (state_of self.old))
             (state_of self.old) (state_of self.new) result }
