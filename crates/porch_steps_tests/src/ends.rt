@@ -113,6 +113,17 @@ fn end_of(machine: &mut Abstract, program: &Valid) -> Result<Option<End>, AllocE
     Ok(None)
 }
 
+// The same in one call, which doesn't pause.
+fn end_at_once(machine: &mut Abstract, program: &Valid) -> Result<Option<End>, AllocError>
+    requires { Fits program.now machine.old }
+{
+    match machine.run(program, u64::from(STEPS))? {
+        AStep::Went => Ok(None),
+        AStep::Ended { value } => Ok(Some(End::Done(value))),
+        AStep::Act { act } => Ok(Some(End::Met(act))),
+    }
+}
+
 fn try_program(rt: &impl Abort, alloc: Global, program: &Program) -> Result<(), Fail> {
     let text = text_of(alloc, program)?;
     assert_eq!(rt; plain_refusal(alloc, text.as_slice())?, program.plain);
@@ -126,6 +137,13 @@ fn try_program(rt: &impl Abort, alloc: Global, program: &Program) -> Result<(), 
     assert_eq!(rt; end, Some(program.end));
     assert_eq!(rt; machine.turns(), program.turns);
     assert!(rt; machine.output() == program.output.as_bytes());
+    if program.end != End::Paused {
+        let mut machine = Abstract::new(alloc, &valid, widths)?;
+        let end = end_at_once(&mut machine, &valid)?;
+        assert_eq!(rt; end, Some(program.end));
+        assert_eq!(rt; machine.turns(), program.turns);
+        assert!(rt; machine.output() == program.output.as_bytes());
+    }
     Ok(())
 }
 
