@@ -1,0 +1,8 @@
+use Rattle.std.proofs.Common.{refl}
+use Rattle.porch_statements.proofs.given.give_repeated.Goals as goal
+
+pub returns-in-None : goal.returns-in-None
+returns-in-None c = rw c.in-None.is (λ text. refl)
+
+pub returns-in-Some : goal.returns-in-Some
+returns-in-Some c = rw c.in-Some.is c.nest.ensures.nested

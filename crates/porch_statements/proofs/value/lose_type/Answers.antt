@@ -1,0 +1,5 @@
+use Rattle.std.proofs.Common.{refl}
+use Rattle.porch_statements.proofs.value.lose_type.Goals as goal
+
+pub returns : goal.returns
+returns c = λ text builder. refl

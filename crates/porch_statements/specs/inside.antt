@@ -1,0 +1,3 @@
+-- What only private contracts cite.
+-- what functions and labels are made of
+pub mod Made
