@@ -1,0 +1,4 @@
+-- temporaries by type
+pub mod Numbers
+-- code in the making
+pub mod MadeSame

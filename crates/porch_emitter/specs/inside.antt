@@ -1,0 +1,2 @@
+-- temporaries of types that have a place
+pub mod Pools
