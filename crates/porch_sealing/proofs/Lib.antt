@@ -1,0 +1,2 @@
+pub mod OneMorePlace
+pub mod MemberTypes
