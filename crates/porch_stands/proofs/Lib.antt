@@ -1,0 +1,9 @@
+pub mod Later
+pub mod Moving
+pub mod Parts
+pub mod Placed
+pub mod Written
+pub mod Shapes
+pub mod Changed
+pub mod Kept
+pub mod Changing

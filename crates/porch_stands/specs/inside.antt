@@ -1,0 +1,2 @@
+-- what is true of leaves, and of memory
+pub mod Measured
