@@ -45,7 +45,8 @@ pub fn steps_follow()
 
 // What is true of leaves and of memory under each layout.
 fn all_are_measured()
-    ensures { (under : Layout) (types : List Ty) → IsLayout under → IsTypes types → AreMeasured under types }
+    ensures { (under : Layout) (types : List Ty) → IsLayout under → IsTypes types
+        → AreMeasured under types }
 {
     elements_are_aligned();
     extents_add_up();
