@@ -1,0 +1,2 @@
+-- code in the making, one step behind the other
+pub mod Steps

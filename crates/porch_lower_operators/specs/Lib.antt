@@ -1,0 +1,2 @@
+-- what only this crate's own functions say
+pub mod inside
