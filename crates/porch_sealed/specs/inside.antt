@@ -1,0 +1,2 @@
+-- What only the contracts of the crate's own functions cite.
+pub mod Steps
