@@ -1,0 +1,3 @@
+-- What only the contracts of the crate's own functions cite.
+pub mod Operand
+pub mod Puts

@@ -1,0 +1,5 @@
+mod Counted
+mod Others
+mod Behind
+mod Longer
+mod Texts
