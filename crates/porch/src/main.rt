@@ -1,11 +1,11 @@
 //! Porch: compiles, runs, stops and resumes C programs.
 //!
-//! `main` hands the standard streams and the words to the top call of porch_cli, which does the work, and ends with the
-//! number of its answer.
+//! `main` hands the standard streams, the current folder and the words to the top call of porch_cli, which does the work,
+//! and ends with the number of its answer.
 #![tactic(auto)]
 
 use porch_cli::{Status, close, number_of_status, porch};
-use porch_edge::{StdSink, StdSource};
+use porch_edge::{DirDisk, StdSink, StdSource};
 use std::alloc::Global;
 use std::process::ExitCode;
 use std::{env, io};
@@ -33,8 +33,17 @@ fn main(rt: HostRuntime) -> ExitCode {
     let mut out = StdSink::new(rt.stdout());
     let mut err = StdSink::new(rt.stderr());
     let alloc: Global = rt.alloc();
-    let status = match words_of(&rt) {
-        Ok(words) => porch(alloc, words.as_slice(), &mut source, &mut out, &mut err),
+    let words = words_of(&rt);
+    let mut disk = DirDisk::new(rt);
+    let status = match words {
+        Ok(words) => porch(
+            alloc,
+            words.as_slice(),
+            &mut source,
+            &mut disk,
+            &mut out,
+            &mut err,
+        ),
         Err(error) => close(&[], status_without_words(error), &mut err),
     };
     ExitCode::from(number_of_status(status))

@@ -1,5 +1,7 @@
 pub mod Reasons
 pub mod Taken
-pub mod Turns
+pub mod OneRun
 pub mod Budget
 pub mod Runs
+pub mod Looks
+pub mod Fronts

@@ -159,5 +159,7 @@ module _ (flat : Flat) (on : Setting) (n : ℕ) where
   runs_over m m' h h' h'' f f' f'' status.Usage le c a = absurd a
   runs_over m m' h h' h'' f f' f'' (status.Refused r) le c a = absurd a
   runs_over m m' h h' h'' f f' f'' status.Unbuilt le c a = absurd a
+  runs_over m m' h h' h'' f f' f'' (status.BadLayout key rule) le c a = absurd a
+  runs_over m m' h h' h'' f f' f'' status.DiskFault le c a = absurd a
   runs_over m m' h h' h'' f f' f'' status.ReadFault le c a = absurd a
   runs_over m m' h h' h'' f f' f'' status.NoMemory le c a = absurd a

@@ -1,5 +1,7 @@
--- the words of a command
+-- the runs that words order
 pub mod Words
+-- which layout a name stands for
+pub mod Layouts
 -- the closing line of each answer
 pub mod Lines
 -- why the top call gives each answer

@@ -3,6 +3,7 @@ use Rattle.std.specs.Prelude.{ℕ, ◌+◌, ◌==◌, List, [], ◌∷◌, ◌++
 use Rattle.std.specs.Fmt.{decimal, signed_decimal}
 use Rattle.porch_lex.specs.declared.refusal.Rule.{Rule}
 use Rattle.porch_lex.specs.declared.refusal.Rule.TheVariants as rule
+use Rattle.porch_layout.specs.Words as layouts
 use Rattle.porch_values.specs.declared.acts.Act.{Act}
 use Rattle.porch_values.specs.declared.acts.Act.TheVariants as act
 use Rattle.porch_cli.specs.declared.status.Status.{Status}
@@ -59,12 +60,14 @@ abbrev pub said_of : List ℕ → Status → List ℕ
 said_of text (status.Done value turns) = codes "done " ++ signed_decimal value ++ codes " " ++ decimal turns
 said_of text status.Usage = codes "usage: porch exec, compile, start, resume, clear, vet, show, drill"
 said_of text (status.Refused r) = codes "refused " ++ rule_name r.rule ++ codes " " ++ decimal (line_at text r.at) ++ codes " " ++ decimal (column_at text r.at)
+said_of text (status.BadLayout key rule) = codes "bad layout " ++ layouts.rule_name rule ++ codes " " ++ layouts.key_name key
 said_of text status.Unbuilt = codes "refused Unbuilt 1 1"
 said_of text (status.Trap a turns) = codes "trap " ++ act_name a ++ codes " " ++ decimal turns
 said_of text (status.StackFull asked left) = codes "stack full " ++ decimal asked ++ codes " " ++ decimal left
 said_of text (status.Paused turns) = codes "paused " ++ decimal turns
 said_of text status.ReadFault = codes "read fault"
 said_of text status.WriteFault = codes "write fault"
+said_of text status.DiskFault = codes "disk fault"
 said_of text status.NoMemory = codes "no memory"
 
 abbrev pub line_of : List ℕ → Status → List ℕ
@@ -79,6 +82,8 @@ number_of status.Unbuilt = 2
 number_of (status.Trap a turns) = 3
 number_of (status.StackFull asked left) = 4
 number_of (status.Paused turns) = 5
+number_of (status.BadLayout key rule) = 11
 number_of status.ReadFault = 12
 number_of status.WriteFault = 13
+number_of status.DiskFault = 14
 number_of status.NoMemory = 15

@@ -3,11 +3,13 @@
 ghost use Rattle.std.specs.Prelude.{◌≡◌, ◌≤◌, ◌<◌, ◌+◌, ◌^◌, ◌++◌, length, codes, take, []};
 ghost use Rattle.std.specs.Fmt.{decimal, signed_decimal};
 ghost use Rattle.arrayvec.specs.ArrayString.{array_string_len};
+ghost use Rattle.porch_layout.specs.Words.{rule_name as layout_rule_name, key_name};
 ghost use Rattle.porch_cli.specs.Lines.{rule_name, act_name, line_at, column_at, said_of, line_of};
 
 use crate::status::Status;
 use arrayvec::ArrayString;
 use itoa::Buffer;
+use porch_layout::{LayoutKey, LayoutRule};
 use porch_lex::{Refusal, Rule};
 use porch_values::Act;
 
@@ -60,6 +62,22 @@ fn name_of_act(act: Act) -> &'static str
         Act::Count => "Count",
         Act::Address => "Address",
     }
+}
+
+/// The name of a rule of layouts files.
+fn name_of_layout_rule(rule: LayoutRule) -> &'static str
+    ensures name { result.now ≡ layout_rule_name rule }
+    ensures short { length result.now ≤ 20 }
+{
+    rule.name()
+}
+
+/// The name of a key of a layout.
+fn name_of_key(key: LayoutKey) -> &'static str
+    ensures name { result.now ≡ key_name key }
+    ensures short { length result.now ≤ 20 }
+{
+    key.name()
 }
 
 /// Adds a space and a number.
@@ -135,6 +153,18 @@ fn line_of_refusal(text: &[u8], refusal: Refusal) -> Line
     line
 }
 
+/// The line of a name that stands for no layout.
+fn line_of_layout(key: LayoutKey, rule: LayoutRule) -> Line
+    ensures bytes { result.bytes ≡ said_of [] (Status.BadLayout key rule) }
+    ensures room { array_string_len result ≤ 127 }
+{
+    let mut line = line_with("bad layout ");
+    line.push_str(name_of_layout_rule(rule));
+    line.push_str(" ");
+    line.push_str(name_of_key(key));
+    line
+}
+
 /// The line of a trap.
 fn line_of_trap(act: Act, turns: u64) -> Line
     ensures bytes { result.bytes ≡ said_of [] (Status.Trap act turns) }
@@ -188,6 +218,7 @@ pub fn line_of_status(text: &[u8], status: Status) -> Line
         Status::Usage => {
             line_with("usage: porch exec, compile, start, resume, clear, vet, show, drill")
         }
+        Status::BadLayout { key, rule } => line_of_layout(key, rule),
         Status::Refused(refusal) => line_of_refusal(text, refusal),
         Status::Unbuilt => line_with("refused Unbuilt 1 1"),
         Status::Trap { act, turns } => line_of_trap(act, turns),
@@ -195,6 +226,7 @@ pub fn line_of_status(text: &[u8], status: Status) -> Line
         Status::Paused { turns } => line_of_pause(turns),
         Status::ReadFault => line_with("read fault"),
         Status::WriteFault => line_with("write fault"),
+        Status::DiskFault => line_with("disk fault"),
         Status::NoMemory => line_with("no memory"),
     };
     line.push_str("\n");

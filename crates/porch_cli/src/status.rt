@@ -3,6 +3,7 @@
 ghost use Rattle.std.specs.Prelude.{◌≡◌};
 ghost use Rattle.porch_cli.specs.Lines.{number_of};
 
+use porch_layout::{LayoutKey, LayoutRule};
 use porch_lex::Refusal;
 use porch_values::Act;
 
@@ -11,11 +12,14 @@ use porch_values::Act;
 pub enum Status {
     /// The program ended with a value after so many turns.
     Done { value: i32, turns: u64 },
-    /// The words aren't a command.
+    /// The words aren't a command that is built.
     Usage,
+    /// The layout's name stands for none: this rule is broken at this key of the layouts file.
+    BadLayout { key: LayoutKey, rule: LayoutRule },
     /// The source breaks a rule.
     Refused(Refusal),
-    /// The source breaks no rule that is looked at, and isn't in the part of the language that runs yet.
+    /// The source breaks no rule that is looked at, and isn't in the part of the language that runs yet, or nothing runs
+    /// under the layout yet.
     Unbuilt,
     /// The run met what its machine can't go on from, as an undefined act of the program.
     Trap { act: Act, turns: u64 },
@@ -27,6 +31,8 @@ pub enum Status {
     ReadFault,
     /// A sink failed.
     WriteFault,
+    /// The disk failed.
+    DiskFault,
     /// Memory was refused.
     NoMemory,
 }
@@ -42,8 +48,10 @@ pub fn number_of_status(status: Status) -> u8
         Status::Trap { .. } => 3,
         Status::StackFull { .. } => 4,
         Status::Paused { .. } => 5,
+        Status::BadLayout { .. } => 11,
         Status::ReadFault => 12,
         Status::WriteFault => 13,
+        Status::DiskFault => 14,
         Status::NoMemory => 15,
     }
 }

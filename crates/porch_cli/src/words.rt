@@ -1,87 +1,48 @@
-//! Reads the command line.
+//! The run that words order.
 
-ghost use Rattle.std.specs.Prelude.{◌≡◌, ◌↔◌, ℕ, Some, map, IsTrue, string_bytes};
-ghost use Rattle.porch_syntax.specs.Token.{is_digit};
-ghost use Rattle.porch_cli.specs.Words.{IsExec, IsTurns};
-ghost use Rattle.porch_cli.specs.inside.Digits.{value_behind};
+ghost use Rattle.std.specs.Prelude.{◌≡◌, IfSome};
+ghost use Rattle.porch_session.specs.Limits.{AreLimits};
+ghost use Rattle.porch_words.specs.Words.{texts};
+ghost use Rattle.porch_cli.specs.Words.{RunOrder, IsExec};
+ghost use Rattle.porch_words.specs.Orders.{order_seen};
+ghost use Rattle.porch_cli.specs.inside.Ordered.{IsOrderedBy, run_of, run_seen};
 
-/// The turns of a run where none are named.
-const DEFAULT_TURNS: u64 = 1_000_000_000;
+use porch_session::Limits;
+use porch_words::{Order, Usage, read_words};
 
-/// The greatest number of turns that may be named.
-const MOST_TURNS: u64 = 4_611_686_018_427_387_904;
-
-/// The digits that a number may have.
-const MOST_DIGITS: usize = 19;
-
-/// Whether a byte is a decimal digit.
-fn is_decimal_digit(byte: u8) -> bool
-    ensures { result ≡ is_digit byte }
-{
-    b'0' <= byte && byte <= b'9'
+/// A run that is ordered.
+#[derive(Clone, Copy)]
+pub struct RunOrdered<'w> {
+    /// The name of its layout.
+    pub layout: &'w str,
+    /// What it is limited to.
+    pub limits: Limits,
 }
 
-/// The number that digits stand for, unless it is too large for a number of turns.
-fn value_of(digits: &[u8]) -> Option<u64>
-    ensures { result ≡ value_behind 0 digits.now }
+/// The run that words order, where they are `exec` with its options. The other commands aren't built yet.
+pub fn ordered_run(words: &[String]) -> Option<RunOrdered<'_>>
+    ensures ordered { IsOrderedBy (texts words.now) result }
+    ensures limited { IfSome result (λ run. AreLimits run.limits) }
+    ensures once { (o p : RunOrder) → IsExec (texts words.now) o → IsExec (texts words.now) p → o ≡ p }
 {
-    let mut value = 0u64;
-    for digit in digits {
-        if is_decimal_digit(*digit) && value <= MOST_TURNS / 10 {
-            value = 10 * value + u64::from(*digit - b'0');
-        } else {
-            return None;
-        }
-    }
-    Some(value)
-}
-
-/// The number of turns that a word names.
-fn turns_of(word: &[u8]) -> Option<u64>
-    ensures { (turns : ℕ) → (result ≡ Some turns) ↔ IsTurns word.now turns }
-{
-    if word.is_empty() || word.len() > MOST_DIGITS {
-        return None;
-    }
-    match value_of(word) {
-        Some(turns) => {
-            if turns == 0 || turns > MOST_TURNS {
-                None
-            } else {
-                Some(turns)
-            }
-        }
-        None => None,
+    match read_words(words) {
+        Ok(order) => run_in(order),
+        Err(Usage) => None,
     }
 }
 
-/// Whether a word is that text.
-fn is_word(word: &String, text: &str) -> bool
-    ensures { IsTrue result ↔ (string_bytes word.now ≡ text.now) }
+/// The run in an order.
+fn run_in(order: Order<'_>) -> Option<RunOrdered<'_>>
+    ensures { run_seen result ≡ run_of (order_seen order.entry) }
 {
-    word.as_str() == text
-}
-
-/// The budget of turns that the words order, where they are `exec` or `exec --turns N`.
-pub fn read_words(words: &[String]) -> Option<u64>
-    ensures { (turns : ℕ) → (result ≡ Some turns)
-        ↔ IsExec (map (λ word. string_bytes word) words.now) turns }
-{
-    match words {
-        [command] => {
-            if is_word(command, "exec") {
-                Some(DEFAULT_TURNS)
-            } else {
-                None
-            }
-        }
-        [command, option, value] => {
-            if is_word(command, "exec") && is_word(option, "--turns") {
-                turns_of(value.as_bytes())
-            } else {
-                None
-            }
-        }
-        _ => None,
+    match order {
+        Order::Exec { layout, limits } => Some(RunOrdered { layout, limits }),
+        Order::Compile
+        | Order::Start { .. }
+        | Order::Resume { .. }
+        | Order::Clear
+        | Order::Vet { .. }
+        | Order::Show
+        | Order::Drill { .. } => None,
     }
 }

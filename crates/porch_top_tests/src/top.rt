@@ -2,7 +2,7 @@
 //! mid-stream.
 
 use porch_cli::{Status, close, number_of_status, porch};
-use porch_edge::{Failed, MemSink, MemSource, Sink, Source};
+use porch_edge::{Failed, FileName, MemDisk, MemSink, MemSource, Sink, Source};
 use porch_lex::{Refusal, Rule};
 use porch_values::Act;
 use std::alloc::{AllocError, Global};
@@ -44,7 +44,15 @@ fn answer(
     );
     let mut out = MemSink::new(alloc, Vec::from_slice(alloc, writes)?);
     let mut err = MemSink::new(alloc, Vec::from_slice(alloc, lines)?);
-    let status = porch(alloc, words.as_slice(), &mut source, &mut out, &mut err);
+    let mut disk = MemDisk::new(alloc);
+    let status = porch(
+        alloc,
+        words.as_slice(),
+        &mut source,
+        &mut disk,
+        &mut out,
+        &mut err,
+    );
     Ok(Called { status, out, err })
 }
 
@@ -68,7 +76,7 @@ type Row = (
     u8,
 );
 
-static PROGRAMS: [Row; 15] = [
+static PROGRAMS: [Row; 17] = [
     (
         &["exec"],
         "int main(void){putchar('A');return 0;}",
@@ -79,6 +87,28 @@ static PROGRAMS: [Row; 15] = [
     (&["exec"], COUNTING, "012", "done 0 4\n", 0),
     (&["exec", "--turns", "4"], COUNTING, "012", "done 0 4\n", 0),
     (&["exec", "--turns", "3"], COUNTING, "01", "paused 3\n", 5),
+    (
+        &[
+            "exec",
+            "--heap=16",
+            "--turns=4",
+            "--stack",
+            "4096",
+            "--layout",
+            "le64",
+        ],
+        COUNTING,
+        "012",
+        "done 0 4\n",
+        0,
+    ),
+    (
+        &["exec", "--layout", "be32"],
+        COUNTING,
+        "",
+        "refused Unbuilt 1 1\n",
+        2,
+    ),
     (
         &["exec", "--turns", "0000000000000000001"],
         COUNTING,
@@ -426,7 +456,7 @@ fn limits_hold(rt: HostRuntime) -> Result<(), Fail> {
     Ok(())
 }
 
-static USAGE: [&[&str]; 16] = [
+static USAGE: [&[&str]; 20] = [
     &[],
     &["run"],
     &["exec", "exec"],
@@ -440,8 +470,12 @@ static USAGE: [&[&str]; 16] = [
     &["exec", "--turns", "1x"],
     &["exec", "--turns", "4611686018427387905"],
     &["exec", "--turns", "00000000000000000001"],
-    &["exec", "--turns=4"],
+    &["exec", "--turns="],
+    &["exec", "--stack", "4095"],
+    &["exec", "--every", "2"],
+    &["exec", "--layout", "LE64"],
     &["exec", "--turns", "3", "--turns", "3"],
+    &["start"],
     &["EXEC"],
 ];
 
@@ -462,6 +496,82 @@ fn the_greatest_budget(rt: HostRuntime) -> Result<(), Fail> {
     let words = ["exec", "--turns", "4611686018427387904"];
     let got = answer(rt.alloc(), &words, COUNTING.as_bytes(), &[], &[], &[])?;
     assert_eq!(rt; got.status, Status::Done { value: 0, turns: 4 });
+    Ok(())
+}
+
+/// The layouts of a user.
+const LAYOUTS: &str =
+    "[mine]\norder = \"little\"\nlong = 8\npointer = 8\nalign_short = 2\nalign_int = 4\nalign_long = 8\nalign_pointer = 8\nleast_struct = 1\n\n[wide]\norder = \"big\"\nlong = 6\npointer = 8\nalign_short = 2\nalign_int = 4\nalign_long = 8\nalign_pointer = 8\nleast_struct = 1\n";
+
+/// The name of a layout, the call of the disk that fails, if any, the closing line and the number of the status.
+type Named = (&'static str, Option<u64>, &'static str, u8);
+
+static NAMED: [Named; 6] = [
+    // the built-in layout of that name, also where the disk fails
+    ("le64", Some(1), "done 0 4\n", 0),
+    // one that says the same as le64, and one that breaks a rule
+    ("mine", None, "done 0 4\n", 0),
+    ("wide", None, "bad layout BadValue long\n", 11),
+    ("odd", None, "bad layout NoName name\n", 11),
+    ("mine", Some(1), "disk fault\n", 14),
+    ("odd", Some(2), "disk fault\n", 14),
+];
+
+/// Runs `COUNTING` under a layout over a disk with the layouts of a user.
+fn answer_under(alloc: Global, row: &Named) -> Result<Called, AllocError> {
+    let (name, failing, _, _) = row;
+    let words = words_of(alloc, &["exec", "--layout", *name])?;
+    let bytes = Vec::from_slice(alloc, COUNTING.as_bytes())?;
+    let mut source = MemSource::new(bytes, Vec::new(alloc));
+    let mut disk = MemDisk::new(alloc);
+    disk.put(FileName::Layouts, LAYOUTS.as_bytes())?;
+    if let Some(call) = failing {
+        disk.fail_at(*call);
+    }
+    let mut out = MemSink::new(alloc, Vec::new(alloc));
+    let mut err = MemSink::new(alloc, Vec::new(alloc));
+    let status = porch(
+        alloc,
+        words.as_slice(),
+        &mut source,
+        &mut disk,
+        &mut out,
+        &mut err,
+    );
+    Ok(Called { status, out, err })
+}
+
+#[test]
+fn layouts_are_found_by_name(rt: HostRuntime) -> Result<(), Fail> {
+    for row in &NAMED {
+        let got = answer_under(rt.alloc(), row)?;
+        let (name, _, line, number) = row;
+        assert_eq!(rt; got.err.held(), line.as_bytes(), "{name}");
+        assert_eq!(rt; number_of_status(got.status), *number, "{name}");
+    }
+    Ok(())
+}
+
+/// A program of so many variables.
+fn with_variables(alloc: Global, count: usize) -> Result<Vec<u8>, AllocError> {
+    let mut text = Vec::from_slice(alloc, b"int main(void){")?;
+    for number in 0..count {
+        text.extend_from_slice(format!(in alloc; "int a{number}=0;")?.as_bytes())?;
+    }
+    text.extend_from_slice(b"return 0;}")?;
+    Ok(text)
+}
+
+#[test]
+fn a_frame_may_not_fit(rt: HostRuntime) -> Result<(), Fail> {
+    let words = ["exec", "--stack", "4096"];
+    let fits = with_variables(rt.alloc(), 500)?;
+    let got = answer(rt.alloc(), &words, fits.as_slice(), &[], &[], &[])?;
+    assert_eq!(rt; got.status, Status::Done { value: 0, turns: 1 });
+    let wide = with_variables(rt.alloc(), 513)?;
+    let got = answer(rt.alloc(), &words, wide.as_slice(), &[], &[], &[])?;
+    expect_bytes(&rt, &got, "", "stack full 4112 4096\n", "513 variables");
+    assert_eq!(rt; number_of_status(got.status), 4);
     Ok(())
 }
 
@@ -566,7 +676,8 @@ fn answer_in_pieces(alloc: Global, out: &mut Sips, err: &mut Sips) -> Result<Sta
     let bytes = Vec::from_slice(alloc, COUNTING.as_bytes())?;
     let words = words_of(alloc, &["exec"])?;
     let mut source = Drops { bytes, taken: 0 };
-    Ok(porch(alloc, words.as_slice(), &mut source, out, err))
+    let mut disk = MemDisk::new(alloc);
+    Ok(porch(alloc, words.as_slice(), &mut source, &mut disk, out, err))
 }
 
 #[test]

@@ -4,3 +4,4 @@ mod Steps
 mod Named
 mod Values
 mod Ordered
+mod Limited

@@ -2,6 +2,7 @@
 use Rattle.std.specs.Prelude.{ℕ, ◌≡◌, Option, Some, None, List, codes, Bool, true, false, refl}
 use Rattle.porch_values.specs.declared.widths.Widths.{Widths as WidthSet}
 use Rattle.porch_session.specs.declared.limits.Limits.{Limits as RunLimits}
+use Rattle.porch_session.specs.Limits.{AreLimits}
 use Rattle.porch_session.specs.declared.limits.TheConstants.{MOST_TURNS, LEAST_STACK, MOST_STACK, LEAST_HEAP, MOST_HEAP}
 use Rattle.porch_words.specs.declared.given.TheConstants.{DEFAULT_LAYOUT, DEFAULT_EVERY, DEFAULT_TURNS, DEFAULT_STACK, DEFAULT_HEAP}
 use Rattle.porch_words.specs.declared.order.Order.{Order as CodeOrder}
@@ -125,3 +126,10 @@ order_with Resume g = resume (layout_in g) (limits_in g)
 order_with Clear g = clear
 order_with Vet g = vet (or_else g.widths both) (or_else g.turns DEFAULT_TURNS)
 order_with Show g = show
+
+-- what a run is limited to is allowed
+abbrev pub IsLimited : Order → Type 0
+IsLimited (exec name limits) = AreLimits limits
+IsLimited (start name limits) = AreLimits limits
+IsLimited (resume name limits) = AreLimits limits
+IsLimited _ = Unit {0}

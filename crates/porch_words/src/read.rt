@@ -4,7 +4,7 @@ ghost use Rattle.std.specs.Prelude.{◌≡◌, IfOk, MatchResult};
 ghost use Rattle.std.specs.Option.{option_map};
 ghost use Rattle.porch_words.specs.Orders.{Order as Ordered};
 ghost use Rattle.porch_words.specs.Words.{IsOrder, texts};
-ghost use Rattle.porch_words.specs.Orders.{nothing, order_seen, order_with};
+ghost use Rattle.porch_words.specs.Orders.{IsLimited, nothing, order_seen, order_with};
 ghost use Rattle.porch_words.specs.inside.Reading.{drill_of, given_seen, order_in, read};
 ghost use Rattle.porch_words.specs.inside.Steps.{Takes, TakesNext, TakesValue};
 
@@ -24,6 +24,7 @@ pub fn read_words(words: &[String]) -> Result<Order<'_>, Usage>
     ensures read { IfOk result (λ order. IsOrder (texts words.now) (order_seen order)) }
     ensures only { (o : Ordered) → IsOrder (texts words.now) o
         → MatchResult result (λ order. order_seen order ≡ o) (λ usage. ⊥) }
+    ensures limited { IfOk result (λ order. IsLimited (order_seen order)) }
 {
     match order_in(words) {
         Some(order) => Ok(order),

@@ -8,14 +8,17 @@ use Rattle.porch_edge.specs.Streams.{Grew}
 use Rattle.porch_syntax.specs.Tree.{Program}
 use Rattle.porch_source.specs.declared.fault.SourceFault.{SourceFault}
 use Rattle.porch_source.specs.declared.fault.SourceFault.TheVariants.{Refused, Unbuilt, NoMemory}
-use Rattle.porch_source.specs.Sources.{IsFirstRefusal, IsUnbuilt}
+use Rattle.porch_source.specs.Sources.{IsFirstRefusal}
 use Rattle.porch_flat.specs.declared.flat.Flat.{Flat}
+use Rattle.porch_machine.specs.Column.{Setting}
 use Rattle.porch_machine.specs.ByteRun.{Ended, Trap, StackFull, Paused}
 use Rattle.porch_cli.specs.declared.reading.ReadStop.{ReadStop}
 use Rattle.porch_cli.specs.declared.reading.ReadStop.TheVariants as stop
+use Rattle.porch_cli.specs.declared.naming.NamingStop.{NamingStop}
+use Rattle.porch_cli.specs.declared.naming.NamingStop.TheVariants as naming
 use Rattle.porch_cli.specs.declared.status.Status.{Status}
 use Rattle.porch_cli.specs.declared.status.Status.TheVariants as status
-use Rattle.porch_cli.specs.Answers.{exec_setting, IsCompiled, RanProgram, RanProgramPartly, RanText, RanTextPartly}
+use Rattle.porch_cli.specs.Answers.{HasRead, IsCompiled, RanProgram, RanProgramPartly, RanText, RanTextPartly, IsBuilt, IsLeftOut}
 use Rattle.porch_cli.specs.inside.Running.{RunsFlat}
 
 -- so much was taken from the source
@@ -30,30 +33,41 @@ pub record HasReadCause (before now : ℕ) (r : Result (Unit {0}) ReadStop) : Ty
   pub rose : IsErrOf r stop.ReadFault → Rose before now
 
 -- what a run of a text gives
-abbrev pub RunsText : List ℕ → ℕ → Option (List ℕ) → Option (List ℕ) → ℕ → ℕ → Status → Type 0
-RunsText text budget out out' faults faults' (status.Done value turns) = RanText text budget out out' (Ended value) turns
-RunsText text budget out out' faults faults' (status.Trap a turns) = RanText text budget out out' (Trap a) turns
-RunsText text budget out out' faults faults' (status.Paused turns) = RanText text budget out out' Paused turns
-RunsText text budget out out' faults faults' (status.StackFull asked left) = (turns : ℕ) × RanText text budget out out' (StackFull asked left) turns
-RunsText text budget out out' faults faults' (status.Refused r) = IsFirstRefusal text r × Grew out out' []
-RunsText text budget out out' faults faults' status.Unbuilt = IsUnbuilt text × Grew out out' []
-RunsText text budget out out' faults faults' status.WriteFault = Rose faults faults' × RanTextPartly text budget out out'
-RunsText text budget out out' faults faults' status.NoMemory = Grew out out' []
-RunsText text budget out out' faults faults' _ = ⊥
+abbrev pub RunsText : List ℕ → Setting → ℕ → Option (List ℕ) → Option (List ℕ) → ℕ → ℕ → Status → Type 0
+RunsText text on budget out out' faults faults' (status.Done value turns) = IsBuilt on × RanText text on budget out out' (Ended value) turns
+RunsText text on budget out out' faults faults' (status.Trap a turns) = IsBuilt on × RanText text on budget out out' (Trap a) turns
+RunsText text on budget out out' faults faults' (status.Paused turns) = IsBuilt on × RanText text on budget out out' Paused turns
+RunsText text on budget out out' faults faults' (status.StackFull asked left) = IsBuilt on × ((turns : ℕ) × RanText text on budget out out' (StackFull asked left) turns)
+RunsText text on budget out out' faults faults' (status.Refused r) = IsFirstRefusal text r × Grew out out' []
+RunsText text on budget out out' faults faults' status.Unbuilt = IsLeftOut text on × Grew out out' []
+RunsText text on budget out out' faults faults' status.WriteFault = IsBuilt on × Rose faults faults' × RanTextPartly text on budget out out'
+RunsText text on budget out out' faults faults' status.NoMemory = Grew out out' []
+RunsText text on budget out out' faults faults' _ = ⊥
 
 -- the same of a tree, and of a flat program
-abbrev pub RunsTree : Program → ℕ → Option (List ℕ) → Option (List ℕ) → ℕ → ℕ → Status → Type 0
-RunsTree p budget out out' faults faults' (status.Done value turns) = RanProgram p budget out out' (Ended value) turns
-RunsTree p budget out out' faults faults' (status.Trap a turns) = RanProgram p budget out out' (Trap a) turns
-RunsTree p budget out out' faults faults' (status.Paused turns) = RanProgram p budget out out' Paused turns
-RunsTree p budget out out' faults faults' (status.StackFull asked left) = (turns : ℕ) × RanProgram p budget out out' (StackFull asked left) turns
-RunsTree p budget out out' faults faults' status.WriteFault = Rose faults faults' × RanProgramPartly p budget out out'
-RunsTree p budget out out' faults faults' status.NoMemory = Grew out out' []
-RunsTree p budget out out' faults faults' _ = ⊥
+abbrev pub RunsTree : Program → Setting → ℕ → Option (List ℕ) → Option (List ℕ) → ℕ → ℕ → Status → Type 0
+RunsTree p on budget out out' faults faults' (status.Done value turns) = RanProgram p on budget out out' (Ended value) turns
+RunsTree p on budget out out' faults faults' (status.Trap a turns) = RanProgram p on budget out out' (Trap a) turns
+RunsTree p on budget out out' faults faults' (status.Paused turns) = RanProgram p on budget out out' Paused turns
+RunsTree p on budget out out' faults faults' (status.StackFull asked left) = (turns : ℕ) × RanProgram p on budget out out' (StackFull asked left) turns
+RunsTree p on budget out out' faults faults' status.WriteFault = Rose faults faults' × RanProgramPartly p on budget out out'
+RunsTree p on budget out out' faults faults' status.NoMemory = Grew out out' []
+RunsTree p on budget out out' faults faults' _ = ⊥
 
-abbrev pub RunsProgram : Flat → ℕ → Option (List ℕ) → Option (List ℕ) → ℕ → ℕ → Status → Type 0
-RunsProgram flat budget out out' faults faults' status.NoMemory = Grew out out' []
-RunsProgram flat budget out out' faults faults' s = RunsFlat flat exec_setting budget out out' faults faults' s
+abbrev pub RunsProgram : Flat → Setting → ℕ → Option (List ℕ) → Option (List ℕ) → ℕ → ℕ → Status → Type 0
+RunsProgram flat on budget out out' faults faults' status.NoMemory = Grew out out' []
+RunsProgram flat on budget out out' faults faults' s = RunsFlat flat on budget out out' faults faults' s
+
+-- what a run of a tree gives under a layout under which programs run, or not
+abbrev pub RunsUnder : Program → Setting → ℕ → Option (List ℕ) → Option (List ℕ) → ℕ → ℕ → Status → Type 0
+RunsUnder p on budget out out' faults faults' status.Unbuilt = (IsBuilt on → ⊥) × Grew out out' []
+RunsUnder p on budget out out' faults faults' s = IsBuilt on × RunsTree p on budget out out' faults faults' s
+
+-- what the run of a source gives, of which this text was read
+abbrev pub RunsSource : Setting → ℕ → Option (List ℕ) → Option (List ℕ) → ℕ → ℕ → List ℕ → Option (List ℕ) → Option (List ℕ) → ℕ → ℕ → Status → Type 0
+RunsSource on budget left left' read_faults read_faults' text out out' faults faults' status.ReadFault = Rose read_faults read_faults' × Grew out out' []
+RunsSource on budget left left' read_faults read_faults' text out out' faults faults' status.NoMemory = Grew out out' []
+RunsSource on budget left left' read_faults read_faults' text out out' faults faults' s = HasRead left left' text × RunsText text on budget out out' faults faults' s
 
 abbrev pub IsCompiledFor : Program → Result Flat AllocError → Type 0
 IsCompiledFor p (Ok flat) = IsCompiled p flat
@@ -67,3 +81,8 @@ refused_for NoMemory = status.NoMemory
 abbrev pub stopped_for : ReadStop → Status
 stopped_for stop.ReadFault = status.ReadFault
 stopped_for stop.NoMemory = status.NoMemory
+
+abbrev pub unnamed_for : NamingStop → Status
+unnamed_for (naming.BadLayout key rule) = status.BadLayout key rule
+unnamed_for naming.DiskFault = status.DiskFault
+unnamed_for naming.NoMemory = status.NoMemory
