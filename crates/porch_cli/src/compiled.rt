@@ -81,7 +81,8 @@ pub fn run_tree<O: Sink>(
     requires lowerable { IsLowerable (program_of tree.now) }
     requires built { IsBuilt (setting_of layout.now limits.now) }
     requires limited { AreLimits limits.now }
-    ensures runs { RunsTree (program_of tree.now) (setting_of layout.now limits.now) limits.now.turns
+    ensures runs { RunsTree (program_of tree.now)
+        (setting_of layout.now limits.now) limits.now.turns
         (O.held out.old) (O.held out.new) (O.faults out.old) (O.faults out.new) result }
     ensures later { O.faults out.old ≤ O.faults out.new }
 {

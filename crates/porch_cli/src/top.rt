@@ -76,7 +76,8 @@ fn run_under<O: Sink>(
 ) -> Status
     requires lowerable { IsLowerable (program_of tree.now) }
     requires limited { AreLimits limits.now }
-    ensures runs { RunsUnder (program_of tree.now) (setting_of layout.now limits.now) limits.now.turns
+    ensures runs { RunsUnder (program_of tree.now)
+        (setting_of layout.now limits.now) limits.now.turns
         (O.held out.old) (O.held out.new) (O.faults out.old) (O.faults out.new) result }
     ensures later { O.faults out.old ≤ O.faults out.new }
 {

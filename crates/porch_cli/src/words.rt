@@ -23,7 +23,8 @@ pub struct RunOrdered<'w> {
 pub fn ordered_run(words: &[String]) -> Option<RunOrdered<'_>>
     ensures ordered { IsOrderedBy (texts words.now) result }
     ensures limited { IfSome result (λ run. AreLimits run.limits) }
-    ensures once { (o p : RunOrder) → IsExec (texts words.now) o → IsExec (texts words.now) p → o ≡ p }
+    ensures once { (o p : RunOrder) → IsExec (texts words.now) o → IsExec (texts words.now) p
+        → o ≡ p }
 {
     match read_words(words) {
         Ok(order) => run_in(order),
