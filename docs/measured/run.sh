@@ -1,6 +1,6 @@
 #!/usr/bin/env bash
 # Proves and builds a measuring program in a copy of the crates that it stands on, and runs it. usage: [WITH=..] run.sh NAME WORD..
-# NAME is heap_times, value_times, type_times, find_times, flat_times, rewrite_times, abstract_times, lex_times, depth_times or image_times;
+# NAME is heap_times, value_times, type_times, find_times, flat_times, rewrite_times, abstract_times, run_times, lex_times, depth_times or image_times;
 # WITH is put before the run, as a profiler's call. Files among the words have whole paths. NAME.txt is the program, and NAME_loop.txt, where it is there, what
 # a loop keeps: of the function that it names.
 set -eu
@@ -16,6 +16,10 @@ case $name in
     flat_times) base=$flat kit=sqlite_items ;;
     rewrite_times) base="$flat porch_objects porch_abstract porch_rewrite" kit=sqlite_items ;;
     abstract_times) base="$flat porch_objects porch_sparse porch_live porch_abstract porch_quick porch_steps" kit=sqlite_items ;;
+    run_times)
+        base="$flat porch_objects porch_layout porch_metrics porch_heap porch_abstract porch_bytes porch_ends porch_instructions"
+        base="$base porch_operations porch_direct porch_frames porch_map porch_code porch_load porch_stack porch_run"
+        kit='sqlite_items itoa thiserror' first=none ;;
     find_times) base='porch_types porch_layout porch_metrics porch_find' first=none ;;
     image_times)
         base="$flat porch_layout porch_metrics porch_find porch_points porch_ucf" kit='sqlite_items sha2' first=none ;;

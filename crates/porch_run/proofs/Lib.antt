@@ -3,3 +3,5 @@ pub mod Doing
 pub mod Running
 pub mod Parts
 pub mod Loading
+pub mod DirectCodes
+pub mod Going

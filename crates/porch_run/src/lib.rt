@@ -6,11 +6,13 @@
 
 mod advance;
 mod counting;
+mod directs;
 mod end;
 mod laws;
 mod machine;
 mod plain;
 mod prepared;
+mod straight;
 
 pub use end::Stop;
 pub use laws::runs_are_parts_of_runs;

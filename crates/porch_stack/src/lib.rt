@@ -14,5 +14,5 @@ pub mod step;
 
 pub use frames::{enter, enter_main, leave, leave_at_end, leave_by_return, returned_value};
 pub use going::{count_turn, move_to};
-pub use laws::next_operations_may_be_done;
+pub use laws::{next_operations_may_be_done, operations_come_next, spots_may_be_moved};
 pub use next::{next_operation, sort_of};
