@@ -1,12 +1,12 @@
 -- A leaf of an object that lives becomes a value, and its bytes the number of that: the machine stands for the state again.
-use Rattle.std.proofs.Common.{◌≡◌, ◌≢◌, ◌<◌, ◌≤◌, ◌⊎◌, inl, inr, ℕ, ◌+◌, ◌*◌, ℤ, List, length, get_or, refl, sym, ap, subst, ◌∙◌, arith, Option, Some, None, IsTrue}
+use Rattle.std.proofs.Common.{◌≡◌, ◌≢◌, ◌<◌, ◌≤◌, ◌⊎◌, inl, inr, ℕ, ◌+◌, ◌*◌, ℤ, List, length, get_or, refl, sym, ap, subst, ◌∙◌, arith, Some, IsTrue}
 use Rattle.std.specs.Prelude.{slice_get, slice_set}
 use Rattle.std.proofs.lemmas.Bool.{cases_eq}
 use Rattle.std.proofs.lemmas.List.{length-set}
 use Rattle.std.proofs.lemmas.Option.{slice_get_within, slice_get-get_or, same_Some}
 use Rattle.porch_types.specs.LeafTypes.{leaf_type}
 use Rattle.porch_values.specs.declared.widths.Widths.{Widths}
-use Rattle.porch_objects.specs.Store.{Home, of_block, Value, Root, Object, HeapObject, Store, leaves_in, object_at, with_leaves, with_leaf_at, changed}
+use Rattle.porch_objects.specs.Store.{Home, of_block, Value, Root, Object, HeapObject, Store, leaves_in, object_at, with_leaves, with_leaf_at}
 use Rattle.porch_heap.specs.declared.block.Block.{Block}
 use Rattle.porch_flat.specs.declared.whole.Flat.{Flat}
 use Rattle.porch_abstract.specs.Machine as abstract
@@ -14,7 +14,7 @@ use Rattle.porch_bytes.specs.Leaf.{encoded, leaf_value, with_leaf_value}
 use Rattle.porch_bytes.specs.Shapes.{shape_of, is_in_shape}
 use Rattle.porch_bytes.specs.State.{Setting, State, with_memory}
 use Rattle.porch_bytes.specs.Column.{size_of, leaf_place}
-use Rattle.porch_bytes.specs.StandsFor.{HoldsLeaf, HoldsObject, IsBlockOf, EndsBefore, HasAllocation, AreCallsBelow, AreBlocksFrom}
+use Rattle.porch_bytes.specs.StandsFor.{HoldsLeaf, HoldsObject, IsBlockOf, EndsBefore, AreCallsBelow, AreBlocksFrom}
 use Rattle.porch_stands.specs.Follows.{AreBytes, IsStoodFor}
 use Rattle.porch_stands.specs.Placed.{HasTypes}
 use Rattle.porch_stands.specs.Leaves.{IsLeafOf}

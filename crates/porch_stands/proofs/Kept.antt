@@ -1,9 +1,8 @@
 -- A number that is written leaves memory as long as it was, and each element a byte.
-use Rattle.std.proofs.Common.{◌≡◌, ◌<◌, ◌≤◌, ℕ, zero, suc, ◌+◌, ◌-◌, ◌/◌, ◌%◌, ℤ, List, [], ◌∷◌, ◌++◌, length, take, drop, get_or, refl, sym, ap, ◌∙◌, arith, Some, Bool, true, false}
-use Rattle.std.specs.Prelude.{slice_get, reverse, unsigned_abs}
+use Rattle.std.proofs.Common.{◌≡◌, ℕ, zero, suc, ◌+◌, ◌-◌, ◌/◌, ◌%◌, ℤ, List, [], ◌∷◌, ◌++◌, length, take, drop, sym, ap, ◌∙◌, arith, Some, Bool, true, false}
+use Rattle.std.specs.Prelude.{reverse}
 use Rattle.std.proofs.lemmas.List.{length-reverse, get_or-reverse}
 use Rattle.std.proofs.lemmas.Option.{slice_get_within, slice_get-get_or, get_or_from_slice_get}
-use Rattle.porch_values.specs.Integers.{low_bits}
 use Rattle.porch_bytes.specs.Leaf.{digits, in_order, encoded, spliced}
 use Rattle.porch_stands.specs.Follows.{AreBytes}
 

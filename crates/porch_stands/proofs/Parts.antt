@@ -1,5 +1,5 @@
 -- Where globals and variables lie in their parts of memory, and how the parts follow one another.
-use Rattle.std.proofs.Common.{◌≡◌, ◌<◌, ◌≤◌, ◌⊎◌, inl, inr, ℕ, zero, suc, ◌+◌, ◌-◌, ◌*◌, ◌%◌, max, List, [], ◌∷◌, length, refl, sym, ap, subst, ◌∙◌, arith, Some}
+use Rattle.std.proofs.Common.{◌≡◌, ◌<◌, ◌≤◌, ◌⊎◌, inl, inr, ℕ, zero, suc, ◌+◌, ◌-◌, ◌%◌, max, List, [], ◌∷◌, length, refl, ap, subst, ◌∙◌, arith, Some}
 use Rattle.std.specs.Prelude.{slice_get, slice_index}
 use Rattle.std.proofs.Math.Nat.{le-max_left, le-max_right}
 use Rattle.std.proofs.lemmas.Bool.{cases_lt}
@@ -7,10 +7,10 @@ use Rattle.std.proofs.Math.Nat.{max-eq_left, max-eq_right}
 use Rattle.porch_layout.specs.Layouts.{IsAlignment}
 use Rattle.porch_metrics.specs.Extents.{Extent, extent_of, round_up}
 use Rattle.porch_flat.specs.declared.whole.Flat.{Flat}
-use Rattle.porch_bytes.specs.Memory.{UNIT, FIRST_GLOBAL, places_from, free_after, extent, global_types, globals_end, stack_begin, heap_begin, variables, place_of_variable, frame_size}
-use Rattle.porch_bytes.specs.State.{Setting, Frame, memory_end}
+use Rattle.porch_bytes.specs.Memory.{UNIT, FIRST_GLOBAL, places_from, free_after, extent, global_types, globals_end, stack_begin, variables, place_of_variable, frame_size}
+use Rattle.porch_bytes.specs.State.{Setting, Frame}
 use Rattle.porch_bytes.specs.Column.{used, stack_end, heap_at}
-use Rattle.porch_bytes.specs.Fits.{IsFrame, AreFrames}
+use Rattle.porch_bytes.specs.Fits.{AreFrames}
 use Rattle.porch_stands.specs.Placed.{HasTypes}
 use Rattle.porch_stands.specs.inside.Measured.{AreMeasured}
 

@@ -1,28 +1,27 @@
 -- Each object that lives has its place.
-use Rattle.std.proofs.Common.{◌≡◌, ◌<◌, ◌≤◌, ◌⊎◌, inl, inr, ℕ, zero, suc, ◌+◌, ◌*◌, ◌%◌, List, [], ◌∷◌, length, map, refl, sym, ap, subst, ◌∙◌, arith, Option, Some, None, Bool, true, false}
-use Rattle.std.specs.Prelude.{slice_get, nat_eq}
+use Rattle.std.proofs.Common.{◌≡◌, ◌<◌, ◌≤◌, inl, inr, ℕ, zero, suc, ◌+◌, ◌*◌, ◌%◌, List, [], ◌∷◌, length, map, refl, sym, ap, subst, ◌∙◌, arith, Option, Some, None}
+use Rattle.std.specs.Prelude.{slice_get}
 use Rattle.std.specs.Option.{option_map}
 use Rattle.std.proofs.lemmas.Bool.Decides.{eqb_tells}
 use Rattle.std.proofs.lemmas.Option.{slice_get-map, slice_get_within, same_Some}
 use Rattle.std.proofs.lemmas.List.{length-map}
 use Rattle.porch_layout.specs.Layouts.{IsAlignment}
 use Rattle.porch_values.specs.declared.widths.Widths.{Widths}
-use Rattle.porch_objects.specs.Store.{Home, of_global, of_call, of_block, Root, one_of, Object, Activation, HeapObject, Store, variables_in, block_in, object_at}
+use Rattle.porch_objects.specs.Store.{Home, of_global, of_call, of_block, Root, one_of, Object, Activation, HeapObject, variables_in, block_in, object_at}
 use Rattle.porch_heap.specs.declared.block.Block.{Block}
-use Rattle.porch_heap.specs.Blocks.{Each, Stand, IsHeap}
-use Rattle.porch_heap.specs.Gaps.{IsAmong}
+use Rattle.porch_heap.specs.Blocks.{Each, Stand}
 use Rattle.porch_flat.specs.declared.flat.GlobalObject.{GlobalObject}
 use Rattle.porch_flat.specs.declared.whole.Flat.{Flat}
 use Rattle.porch_abstract.specs.Machine as abstract
-use Rattle.porch_bytes.specs.Memory.{global_types, place_of_global, globals_end, stack_begin, variables, place_of_variable, frame_size}
+use Rattle.porch_bytes.specs.Memory.{global_types, place_of_global, globals_end, stack_begin, variables, place_of_variable}
 use Rattle.porch_bytes.specs.State.{Setting, Frame, Phase, before, running, over, State, frames_of, memory_end}
-use Rattle.porch_bytes.specs.Column.{size_of, align_of, used, stack_end, parts_with, heap_at}
-use Rattle.porch_bytes.specs.Fits.{Fits, IsFrame, AreFrames, IsBlock}
-use Rattle.porch_bytes.specs.StandsFor.{StandsFor, IsFrameOf, AreFramesOf, IsPhaseOf, IsBlockOf, HasAllocation, root_in}
+use Rattle.porch_bytes.specs.Column.{size_of, align_of, stack_end, heap_at}
+use Rattle.porch_bytes.specs.Fits.{IsFrame, AreFrames, IsBlock}
+use Rattle.porch_bytes.specs.StandsFor.{IsFrameOf, AreFramesOf, IsPhaseOf, HasAllocation, root_in}
 use Rattle.porch_stands.specs.Follows.{IsStoodFor}
-use Rattle.porch_stands.specs.Placed.{HasTypes, LieIn, in_globals, in_stack, in_heap, IsPlaced}
+use Rattle.porch_stands.specs.Placed.{HasTypes, in_globals, in_stack, in_heap, IsPlaced}
 use Rattle.porch_stands.specs.inside.Measured.{AreMeasured}
-use Rattle.porch_stands.proofs.Parts.{HasRoom, global_room, variable_room, stack_whole, globals_low, globals_first, heap_high, stack_low, power}
+use Rattle.porch_stands.proofs.Parts.{global_room, variable_room, stack_whole, globals_low, stack_low, power}
 
 -- the root of an object of a list whose roots are single elements of these types
 root_at : (objects : List Object) (tys : List ℕ) (i : ℕ) (o : Object) → map root_in objects ≡ map one_of tys → slice_get objects i ≡ Some o

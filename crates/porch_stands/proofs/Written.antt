@@ -7,7 +7,6 @@ use Rattle.porch_types.specs.declared.shapes.Kind.{Kind}
 use Rattle.porch_types.specs.declared.shapes.Kind.TheVariants.{Char, UChar, Short, UShort, Int, UInt, Long, ULong}
 use Rattle.porch_types.specs.declared.shapes.Ty.{Ty}
 use Rattle.porch_types.specs.declared.shapes.Ty.TheVariants.{Whole, Pointer, Array, Struct}
-use Rattle.porch_types.specs.Leaves.{leaves_of}
 use Rattle.porch_types.specs.LeafTypes.{IsScalar, leaf_type}
 use Rattle.porch_layout.specs.declared.layout.Layout.{Layout}
 use Rattle.porch_layout.specs.Layouts.{IsSize}
@@ -16,13 +15,13 @@ use Rattle.porch_metrics.specs.Extents.{Extent, kind_extent, extent_of}
 use Rattle.porch_objects.specs.Store.{Home, of_global, of_call, of_block, Object, leaves_in, object_at}
 use Rattle.porch_flat.specs.declared.whole.Flat.{Flat}
 use Rattle.porch_abstract.specs.Machine as abstract
-use Rattle.porch_bytes.specs.Leaf.{decoded, encoded, part, spliced, number_at, with_number, has_sign, leaf_value, with_leaf_value, PartsStay}
+use Rattle.porch_bytes.specs.Leaf.{decoded, encoded, number_at, with_number, has_sign, leaf_value, with_leaf_value, PartsStay}
 use Rattle.porch_bytes.specs.Shapes.{size_in, has_sign_in, signed_of, unsigned_of, kind_shape, shape_of, is_in_shape}
 use Rattle.porch_bytes.specs.declared.shape.Shape.{Shape}
 use Rattle.porch_bytes.specs.State.{Setting, State}
 use Rattle.porch_bytes.specs.Column.{size_of, leaf_place}
 use Rattle.porch_stands.specs.Follows.{IsStoodFor}
-use Rattle.porch_stands.specs.Placed.{HasTypes, IsPlaced}
+use Rattle.porch_stands.specs.Placed.{HasTypes}
 use Rattle.porch_stands.specs.Leaves.{IsLeafOf, AreTwo}
 use Rattle.porch_stands.specs.inside.Measured.{AreMeasured}
 use Rattle.porch_stands.proofs.Placed.{placed}

@@ -1,16 +1,17 @@
 -- What is written to a leaf is read there, and every other leaf is as it was.
-use Rattle.std.specs.Prelude.{ℕ, ◌≡◌, ◌≢◌, ◌<◌, ◌+◌, ℤ, IsTrue, List, length, slice_get, Some}
+use Rattle.std.specs.Prelude.{ℕ, ◌≡◌, ◌≢◌, ◌<◌, ◌+◌, ℤ, IsTrue, slice_get, Some}
 use Rattle.porch_types.specs.LeafTypes.{leaf_type}
 use Rattle.porch_values.specs.declared.widths.Widths.{Widths}
-use Rattle.porch_objects.specs.Store.{Home, Object, leaves_in, object_at}
+use Rattle.porch_objects.specs.Store.{Home, Value, Object, leaves_in, object_at, with_leaf_at}
 use Rattle.porch_flat.specs.declared.whole.Flat.{Flat}
 use Rattle.porch_abstract.specs.Machine as abstract
 use Rattle.porch_bytes.specs.Leaf.{leaf_value, with_leaf_value}
 use Rattle.porch_bytes.specs.Shapes.{shape_of, is_in_shape}
-use Rattle.porch_bytes.specs.State.{Setting, State}
+use Rattle.porch_bytes.specs.State.{Setting, State, with_memory}
 use Rattle.porch_bytes.specs.Column.{leaf_place}
+use Rattle.porch_bytes.specs.StandsFor.{HoldsLeaf}
 use Rattle.porch_stands.specs.Follows.{IsStoodFor}
-use Rattle.porch_stands.specs.Placed.{HasTypes, IsPlaced}
+use Rattle.porch_stands.specs.Placed.{HasTypes}
 
 -- a leaf of an object that lives, its address and its type
 pub record IsLeafOf (flat : Flat) (on : Setting) (w : Widths) (m : State) (s : abstract.State) (h : IsStoodFor flat on w m s)
@@ -41,3 +42,13 @@ WrittenLeavesAreRead =
     → (h : IsStoodFor flat on w m s) (home : Home) (leaf at ty : ℕ) → IsLeafOf flat on w m s h home leaf at ty
     → (z : ℤ) → IsTrue (is_in_shape (shape_of on.layout (slice_get flat.types ty)) z)
     → leaf_value on.layout flat.types (with_leaf_value on.layout flat.types m.memory at ty z) at ty ≡ z
+
+-- A leaf becomes a value of its type, and its bytes the number of that: the machine stands for the state again.
+abbrev pub ChangedLeavesStand : Type 0
+ChangedLeavesStand =
+    (flat : Flat) (on : Setting) (w : Widths) (m : State) (s : abstract.State) → HasTypes flat
+    → (h : IsStoodFor flat on w m s) (home : Home) (leaf at ty : ℕ) → IsLeafOf flat on w m s h home leaf at ty
+    → (v : Value) (z : ℤ) → HoldsLeaf flat on h.stands.address s.store w ty v z
+    → IsTrue (is_in_shape (shape_of on.layout (slice_get flat.types ty)) z)
+    → IsStoodFor flat on w (with_memory m (with_leaf_value on.layout flat.types m.memory at ty z))
+    (abstract.with_store s (with_leaf_at s.store home leaf v))

@@ -6,7 +6,7 @@ ghost use Rattle.porch_types.specs.Leaves.{IsTypes};
 ghost use Rattle.porch_layout.specs.declared.layout.Layout.{Layout};
 ghost use Rattle.porch_layout.specs.Layouts.{IsLayout};
 ghost use Rattle.porch_stands.specs.Follows.{StepsFollow};
-ghost use Rattle.porch_stands.specs.Leaves.{OtherLeavesStay, WrittenLeavesAreRead};
+ghost use Rattle.porch_stands.specs.Leaves.{OtherLeavesStay, WrittenLeavesAreRead, ChangedLeavesStand};
 ghost use Rattle.porch_stands.specs.Placed.{ObjectsArePlaced};
 ghost use Rattle.porch_stands.specs.inside.Measured.{AreMeasured};
 
@@ -34,6 +34,13 @@ pub fn other_leaves_stay()
 /// A number of a leaf's type that is written to it is read there again.
 pub fn written_leaves_are_read()
     ensures { WrittenLeavesAreRead }
+{
+    all_are_measured();
+}
+
+/// A leaf becomes a value of its type, and its bytes the number of that: the machine stands for the state again.
+pub fn changed_leaves_stand()
+    ensures { ChangedLeavesStand }
 {
     all_are_measured();
 }
