@@ -1,0 +1,11 @@
+use Rattle.std.proofs.Common.{◌∷◌, map, ap, ◌∙◌}
+use Rattle.porch_tree.specs.Views.{declarator_of, declaration_of, stmt_of}
+use Rattle.porch_unit.specs.Units.{in_body}
+use Rattle.porch_statements.specs.Shown.{frames_of}
+use Rattle.porch_blocks.proofs.Stacks.{when_both, map_more}
+use Rattle.porch_blocks.proofs.continued.add_in_body.Goals as goal
+
+pub returns : goal.returns
+returns c =
+    when_both c.push_filled.result c.push-filled.result c.push_filled.ensures.filled c.push-filled.ensures.ok c.push_filled.ensures.pushed (λ x e h text. h text
+    ∙ ap (λ ys. in_body (declaration_of text c.args.declaration) (declarator_of text c.args.declarator) (map (declaration_of text) c.args.declarations) ys ∷ (frames_of text c.args.frames.now)) (ap (map (stmt_of text)) e ∙ map_more (stmt_of text) c.args.body c.args.statement))

@@ -1,0 +1,3 @@
+-- What only private contracts cite.
+-- how one frame ends
+pub mod Ended
