@@ -1,0 +1,4 @@
+mod Results
+mod Typedefs
+mod Entries
+mod Readings

@@ -1,0 +1,2 @@
+-- steps of rows, over plain variables
+pub mod Stepped

@@ -1,0 +1,2 @@
+-- temporaries that hold operands, by type
+pub mod Raised

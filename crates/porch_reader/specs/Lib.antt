@@ -1,0 +1,2 @@
+-- what a text with some tokens is answered with
+pub mod Answers
