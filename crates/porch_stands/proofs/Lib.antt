@@ -7,3 +7,4 @@ pub mod Shapes
 pub mod Changed
 pub mod Kept
 pub mod Changing
+pub mod Known

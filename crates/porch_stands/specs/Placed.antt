@@ -4,6 +4,8 @@ use Rattle.porch_types.specs.Leaves.{IsTypes}
 use Rattle.porch_values.specs.declared.widths.Widths.{Widths}
 use Rattle.porch_objects.specs.Store.{Home, Object, object_at}
 use Rattle.porch_flat.specs.declared.whole.Flat.{Flat}
+use Rattle.porch_flat.specs.declared.whole.Sort.{Sort}
+use Rattle.porch_flat.specs.whole.Rules.{IsValid}
 use Rattle.porch_abstract.specs.Machine as abstract
 use Rattle.porch_bytes.specs.declared.access.Parts.{Parts}
 use Rattle.porch_bytes.specs.Memory.{global_types, variables}
@@ -17,6 +19,10 @@ pub record HasTypes (flat : Flat) : Type 0 where
   pub globals_known : (g ty : ℕ) → slice_get (global_types flat) g ≡ Some ty → ty < length flat.types
   pub variables_known : (under : Setting) (function v ty : ℕ) → slice_get (variables under.layout flat function) v ≡ Some ty
       → ty < length flat.types
+
+-- A valid program with lawful types is such a one.
+abbrev pub ValidProgramsHaveTypes : Type 0
+ValidProgramsHaveTypes = (sort : Sort) (flat : Flat) → IsValid sort flat → IsTypes flat.types → HasTypes flat
 
 -- so many bytes from an address on lie in one part of memory
 pub data LieIn (parts : Parts) (at bytes : ℕ) : Type 0 where

@@ -7,7 +7,7 @@ ghost use Rattle.porch_layout.specs.declared.layout.Layout.{Layout};
 ghost use Rattle.porch_layout.specs.Layouts.{IsLayout};
 ghost use Rattle.porch_stands.specs.Follows.{StepsFollow};
 ghost use Rattle.porch_stands.specs.Leaves.{OtherLeavesStay, WrittenLeavesAreRead, ChangedLeavesStand};
-ghost use Rattle.porch_stands.specs.Placed.{ObjectsArePlaced};
+ghost use Rattle.porch_stands.specs.Placed.{ObjectsArePlaced, ValidProgramsHaveTypes};
 ghost use Rattle.porch_stands.specs.inside.Measured.{AreMeasured};
 
 use porch_bytes::{numbers_are_read_back, other_bytes_stay};
@@ -16,6 +16,11 @@ use porch_metrics::{
     rounding_up_is_least,
 };
 use porch_types::{leaf_types_go_by_parts, leaves_are_scalars};
+
+/// In a valid program the types of globals and variables are of the program.
+pub fn valid_programs_have_types()
+    ensures { ValidProgramsHaveTypes }
+{}
 
 /// Each object that lives lies in one part of memory, aligned.
 pub fn a_state_is_stood_for()

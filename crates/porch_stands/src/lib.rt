@@ -9,5 +9,5 @@ mod laws;
 
 pub use laws::{
     a_state_is_stood_for, changed_leaves_stand, other_leaves_stay, steps_follow,
-    written_leaves_are_read,
+    valid_programs_have_types, written_leaves_are_read,
 };
