@@ -8,17 +8,17 @@ use std::test::Fail;
 
 /// A text that repeats two of its parts the same number of times. Up to `most` times nothing is wrong with
 /// it, and with once more a token lies too deep, at byte `at`.
-struct Row {
-    front: &'static str,
-    opening: &'static str,
-    middle: &'static str,
-    closing: &'static str,
-    rest: &'static str,
-    most: usize,
-    at: usize,
+pub(crate) struct Row {
+    pub(crate) front: &'static str,
+    pub(crate) opening: &'static str,
+    pub(crate) middle: &'static str,
+    pub(crate) closing: &'static str,
+    pub(crate) rest: &'static str,
+    pub(crate) most: usize,
+    pub(crate) at: usize,
 }
 
-static ROWS: [Row; 18] = [
+pub(crate) static ROWS: [Row; 18] = [
     // expr and unary, by parentheses
     Row {
         front: "int main(void){int a=0;",
@@ -199,7 +199,7 @@ static ROWS: [Row; 18] = [
     },
 ];
 
-fn text_of(alloc: Global, row: &Row, times: usize) -> Result<String, AllocError> {
+pub(crate) fn text_of(alloc: Global, row: &Row, times: usize) -> Result<String, AllocError> {
     let mut text = String::new(alloc);
     text.push_str(row.front)?;
     for _ in 0..times {

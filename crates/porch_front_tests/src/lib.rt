@@ -10,4 +10,6 @@ mod expressions;
 #[cfg(test)]
 mod tokens;
 #[cfg(test)]
+mod trees;
+#[cfg(test)]
 mod walk;
